@@ -14,7 +14,7 @@ use Rattle.std.proofs.shelf.Ways.{tells}
 use Rattle.std.specs.declared.option.Option.{Option}
 use Rattle.std.specs.declared.option.Option.the-variants.{Some, None}
 use Rattle.names.specs.Types.{isStar}
-use Rattle.names.specs.Wire.{Octets, Label, Labels, lower, wire, none, ends, isName, split, labelsOf, parse, firstLabel, sameOctets, afterLabel, afterLabels, parentOf}
+use Rattle.names.specs.Wire.{Octets, Label, Labels, lower, wire, none, ends, isName, split, labelsOf, parse, firstLabel, sameOctets, afterLabel, afterLabels, parentOf, lowerOctets, isLabel, areLabels}
 
 pub same-octets-true : (a b : Octets) → sameOctets a b ≡ true → a ≡ b
 same-octets-true [] [] h = refl
@@ -146,3 +146,28 @@ pub star-label : (l : Octets) → isStar (map lower l) ≡ (eqb (length l) 1 && 
 star-label [] = refl
 star-label (x ∷ []) = grind (arith, tells)
 star-label (x ∷ (y ∷ ys)) = grind (arith, tells)
+
+-- lower case
+pub lower-lower : (x : ℕ) → lower (lower x) ≡ lower x
+lower-lower x = grind (arith, tells)
+
+pub lower-octets-map : (l : Octets) → lowerOctets (map lower l) ≡ true
+lower-octets-map [] = refl
+lower-octets-map (x ∷ xs) = let ih = lower-octets-map xs in let e = lower-lower x in grind (arith, tells)
+
+split-whole : (k : ℕ) (xs : Octets) → areLabels (split k xs .1) ≡ true
+split-whole zero [] = refl
+split-whole (suc k) [] = refl
+split-whole zero (x ∷ xs) =
+    let ih = split-whole x xs in
+    let s = split-label x xs in
+    let n = length-map (take x xs) lower in
+    let m = length-take-le x xs in
+    let o = lower-octets-map (take x xs) in
+    grind (arith, tells)
+split-whole (suc k) (x ∷ xs) = split-whole k xs
+
+-- the labels that stand at the front of octets are labels
+pub labels-whole : (s : Octets) → areLabels (labelsOf s) ≡ true
+unfolding labelsOf
+labels-whole s = split-whole 0 s

@@ -14,15 +14,7 @@ use Rattle.std.specs.declared.option.Option.{Option}
 use Rattle.std.specs.declared.option.Option.the-variants.{Some, None}
 use Rattle.names.specs.Wire.{Octets, Label, Labels, lower, wire, ends, isName, labelsOf, parse, firstLabel, lowerOctets, isLabel, areLabels, isLabels}
 use Rattle.names.specs.Laws.{WireAndParse}
-use Rattle.names.proofs.Reader.{ends-first, labels-first, labels-none, first-parts, name-first, root-alone, rest-shorter}
-
--- lower case
-pub lower-lower : (x : ℕ) → lower (lower x) ≡ lower x
-lower-lower x = grind (arith, tells)
-
-pub lower-octets-map : (l : Octets) → lowerOctets (map lower l) ≡ true
-lower-octets-map [] = refl
-lower-octets-map (x ∷ xs) = let ih = lower-octets-map xs in let e = lower-lower x in grind (arith, tells)
+use Rattle.names.proofs.Reader.{ends-first, labels-first, labels-none, first-parts, name-first, root-alone, rest-shorter, lower-octets-map, labels-whole}
 
 pub map-lower-octets : (l : Octets) → lowerOctets l ≡ true → map lower l ≡ l
 map-lower-octets [] h = refl

@@ -35,7 +35,10 @@ pub const WORDS: usize = 16;
 // How many bits an octet has.
 const BITS: u16 = 8;
 
-// A set of types below 8 * WORDS. Type t is the bit 128 >> t % 8 of octet t / 8.
+// How many types a set has room for.
+pub const ROOM: u16 = BITS * WORDS as u16;
+
+// A set of types below ROOM. Type t is the bit 128 >> t % 8 of octet t / 8.
 #[derive(Clone, Copy)]
 pub struct TypeSet {
     words: [u8; WORDS],

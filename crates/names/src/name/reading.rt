@@ -11,14 +11,15 @@ ghost use Rattle.names.specs.Wire.{lower, isName, firstLabel, parse, parentOf,
 ghost use Rattle.std.specs.Options.{mapped};
 ghost use Rattle.std.specs.Vec.{refused};
 ghost use Rattle.std.specs.declared.option.Option.the-variants.{Some, None};
+use crate::name::MAX_NAME;
 use crate::name::Name;
+use crate::name::STAR;
 use crate::refusal::Refusal;
 
 const MAX_LABEL: usize = 63;
 
-const MAX_NAME: usize = 255;
-
-const STAR: u8 = 42;
+// The octet that closes a name.
+const END: u8 = 0;
 
 // The first label of a wire form and the octets after it; none at the closing 0, and where no whole label of 1 to 63
 // octets stands.
@@ -58,19 +59,14 @@ impl<'a> Name<'a> {
         let [last] = left else {
             return Err(Refusal::NoName);
         };
-        if *last == 0 {
+        if *last == END {
             Ok(Name { octets })
         } else {
             Err(Refusal::NoName)
         }
     }
 
-    pub fn octets(&self) -> &'a [u8]
-        ensures { λ r. ⌜ now r ≡ octetsIn (now (self .entry)) ⌝ }
-    {
-        self.octets
-    }
-
+    // How many labels the name has.
     pub fn label_count(&self) -> usize
         ensures value { λ r. ⌜ r ≡ length (labelsIn (now (self .entry))) ⌝ }
         ensures bound { λ r. ⌜ r ≤ length (octetsIn (now (self .entry))) ⌝ }
@@ -84,15 +80,25 @@ impl<'a> Name<'a> {
         count
     }
 
+    // The first label, as it stands, and the name after it; the root has none.
+    pub fn split_first(&self) -> Option<(&'a [u8], Name<'a>)>
+        ensures { λ r. ⌜ mapped (λ p. (now (p .0), octetsIn (p .1))) r ≡ firstLabel (octetsIn (now (self .entry))) ⌝ }
+    {
+        let Some((label, rest)) = first_label(self.octets) else {
+            return None;
+        };
+        Some((label, Name { octets: rest }))
+    }
+
     // The name without its first label, as a part of the same octets; the root has none.
     pub fn parent(&self) -> Option<Name<'a>>
         ensures labels { λ r. ⌜ mapped labelsIn r ≡ parentOf (labelsIn (now (self .entry))) ⌝ }
         ensures octets { λ r. ⌜ mapped octetsIn r ≡ mapped (λ _. afterLabel (octetsIn (now (self .entry)))) r ⌝ }
     {
-        let Some((_, rest)) = first_label(self.octets) else {
+        let Some((_, up)) = self.split_first() else {
             return None;
         };
-        Some(Name { octets: rest })
+        Some(up)
     }
 
     // Whether one of the labels is `*`.

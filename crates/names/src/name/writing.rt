@@ -7,14 +7,12 @@ ghost use Prim.Native.Nat.{_≤_, _+_, min};
 ghost use Rattle.names.specs.View.{octets as octetsIn, labels as labelsIn};
 ghost use Rattle.names.specs.Wire.{isName, lower, wire, written, Wrote, WroteStar};
 ghost use Rattle.std.specs.declared.option.Option.the-variants.{Some, None};
+use crate::name::MAX_NAME;
 use crate::name::Name;
+use crate::name::STAR;
 use crate::name::comparing::lower_octet;
 
-const MAX_NAME: usize = 255;
-
 const MAX_STARRED: usize = 253;
-
-const STAR: u8 = 42;
 
 // Octets in lower case to the front of a buffer, as many as it takes, and how many these are.
 fn write_front(s: &[u8], out: &mut [u8]) -> usize

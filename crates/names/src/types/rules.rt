@@ -4,17 +4,14 @@ ghost use Rattle.names.specs.TypeView.{words as wordsIn};
 ghost use Rattle.names.specs.Types.{empty, onlyHoldable, unsignedCut, signedCut, apexSet, cutSet, plainSet, innerSet, ruleBroken};
 ghost use Rattle.names.specs.View.{labels as labelsIn};
 use crate::name::Name;
-use crate::types::BITS;
 use crate::types::DS;
 use crate::types::NS;
+use crate::types::ROOM;
 use crate::types::SOA;
 use crate::types::TypeSet;
 use crate::types::TypeSetPartialEq;
 use crate::types::WORDS;
 use crate::types::is_holdable;
-
-// How many types a set has room for.
-const ROOM: u16 = BITS * WORDS as u16;
 
 impl TypeSet {
     // Whether the set has no type.

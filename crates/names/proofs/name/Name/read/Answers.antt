@@ -23,16 +23,16 @@ returns-in-rest-left c =
     let z = only-zero (c .loop-rest .left .now) in
     record { octets = grind (arith, tells); labels = grind (arith, tells); refused = refl; undo = wire-and-parse }
 
-pub returns-then-last-eq0 : need.returns-then-last-eq0
+pub returns-then-last-eq-END : need.returns-then-last-eq-END
 unfolding isName
-returns-then-last-eq0 c =
+returns-then-last-eq-END c =
     let e = ends-none (c .loop-rest .left .now) (sym (c .in-rest .ensures tt)) in
     let z = only-zero (c .loop-rest .left .now) in
     record { octets = grind (arith, tells); labels = grind (arith, tells); refused = tt; undo = wire-and-parse }
 
-pub returns-else-last-eq0 : need.returns-else-last-eq0
+pub returns-else-last-eq-END : need.returns-else-last-eq-END
 unfolding isName
-returns-else-last-eq0 c =
+returns-else-last-eq-END c =
     let e = ends-none (c .loop-rest .left .now) (sym (c .in-rest .ensures tt)) in
     let z = only-zero (c .loop-rest .left .now) in
     record { octets = grind (arith, tells); labels = grind (arith, tells); refused = refl; undo = wire-and-parse }

@@ -1,0 +1,5 @@
+pub mod fault;
+pub mod line;
+pub mod name;
+pub mod set;
+pub mod types;
