@@ -6,23 +6,23 @@ use std::alloc::Global;
 use std::cmp::Ordering;
 
 #[derive(Drop)]
-pub struct Entry {
+pub(crate) struct Entry {
     octets: Vec<u8>,
     types: TypeSet,
 }
 
 impl Entry {
-    pub fn octets(&self) -> &[u8] {
+    pub(crate) fn octets(&self) -> &[u8] {
         self.octets.as_slice()
     }
 
-    pub fn types(&self) -> TypeSet {
+    pub(crate) fn types(&self) -> TypeSet {
         self.types
     }
 }
 
 #[derive(Drop)]
-pub struct Kept {
+pub(crate) struct Kept {
     entries: Vec<Entry>,
 }
 
@@ -34,13 +34,13 @@ enum Place {
 }
 
 impl Kept {
-    pub fn new(heap: Global) -> Self {
+    pub(crate) fn new(heap: Global) -> Self {
         Kept {
             entries: Vec::new(heap),
         }
     }
 
-    pub fn entries(&self) -> &[Entry] {
+    pub(crate) fn entries(&self) -> &[Entry] {
         self.entries.as_slice()
     }
 
@@ -59,7 +59,7 @@ impl Kept {
     }
 
     // Keeps a name with its types, in the place of what was kept of that name before.
-    pub fn put(&mut self, octets: Vec<u8>, types: TypeSet) -> Result<(), AllocError> {
+    pub(crate) fn put(&mut self, octets: Vec<u8>, types: TypeSet) -> Result<(), AllocError> {
         let place = match Name::read(&octets) {
             Ok(name) => self.place(&name),
             Err(_) => return Ok(()),

@@ -2,7 +2,7 @@
 use names::refusal::Refusal;
 use script::fault::Fault;
 
-pub fn fault_words(fault: Fault) -> &'static str {
+pub(crate) fn fault_words(fault: Fault) -> &'static str {
     match fault {
         Fault::NoMemory => "no memory",
         Fault::NotACommand => "no command",
@@ -13,7 +13,7 @@ pub fn fault_words(fault: Fault) -> &'static str {
     }
 }
 
-pub fn refusal_words(refusal: Refusal) -> &'static str {
+pub(crate) fn refusal_words(refusal: Refusal) -> &'static str {
     match refusal {
         Refusal::NoName => "no name",
         Refusal::OutsideZone => "not at or below the apex",
