@@ -1,9 +1,9 @@
 ghost use mathlib.Core.Path.{_≡_};
 ghost use Rattle.names.specs.View.{octets as octetsIn};
 
-pub mod comparing;
-pub mod reading;
-pub mod writing;
+mod comparing;
+mod reading;
+mod writing;
 
 // The octets that a name has at most.
 pub const MAX_NAME: usize = 255;

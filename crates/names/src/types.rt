@@ -4,9 +4,9 @@ ghost use Rattle.names.specs.TypeView.{words as wordsIn};
 ghost use Rattle.names.specs.Types.{asked, holdable};
 ghost use Rattle.names.specs.Wire.{sameOctets};
 
-pub mod members;
-pub mod octets;
-pub mod rules;
+mod members;
+mod octets;
+mod rules;
 
 pub const NS: u16 = 2;
 

@@ -95,10 +95,10 @@ impl<'a> Name<'a> {
         ensures labels { λ r. ⌜ mapped labelsIn r ≡ parentOf (labelsIn (now (self .entry))) ⌝ }
         ensures octets { λ r. ⌜ mapped octetsIn r ≡ mapped (λ _. afterLabel (octetsIn (now (self .entry)))) r ⌝ }
     {
-        let Some((_, up)) = self.split_first() else {
+        let Some((_, rest)) = self.split_first() else {
             return None;
         };
-        Some(up)
+        Some(rest)
     }
 
     // Whether one of the labels is `*`.
