@@ -102,7 +102,7 @@ pub name-wire : (n : Labels) → isLabels n ≡ true → isName (wire n) ≡ tru
 unfolding isLabels isName
 name-wire n p = let e = ends-wire n in grind (arith, tells)
 
-labels-parts : (n : Labels) → isLabels n ≡ true → areLabels n ≡ true
+pub labels-parts : (n : Labels) → isLabels n ≡ true → areLabels n ≡ true
 unfolding isLabels
 labels-parts n p = and-parts (leb (length (wire n)) 255) (areLabels n) p .1
 
