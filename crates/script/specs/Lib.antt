@@ -4,3 +4,4 @@ pub mod Reads
 pub mod SetText
 pub mod Lines
 pub mod LineView
+pub mod Record

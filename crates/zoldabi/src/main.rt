@@ -12,7 +12,8 @@ use names::types::TypeSet;
 use script::line::Line;
 use script::line::read_line;
 use script::name::name_text;
-use script::set::set_text;
+use script::record::entry_line;
+use script::record::record_line;
 use std::alloc::AllocError;
 use std::alloc::Global;
 use std::env;
@@ -77,9 +78,8 @@ fn answer_list(heap: Global, kept: &Kept) -> Result<String, AllocError> {
         let Ok(name) = Name::read(entry.octets()) else {
             continue;
         };
-        let text = name_text(heap, &name)?;
-        let types = set_text(heap, &entry.types())?;
-        let line = format!(heap, "\n  {text} {types}")?;
+        let line = entry_line(heap, &name, &entry.types())?;
+        answer.push_str("\n")?;
         answer.push_str(&line)?;
     }
     Ok(answer)
@@ -97,7 +97,8 @@ fn run(rt: &LibcRuntime) -> Result<(), AnyError> {
             Ok(Line::Nothing) => continue,
             Err(fault) => return Err(fault_words(fault).into()),
         };
-        println!(rt, "{line} => {answer}")?;
+        let record = record_line(heap, line, &answer)?;
+        println!(rt, "{record}")?;
     }
     Ok(())
 }
