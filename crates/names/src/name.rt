@@ -11,7 +11,8 @@ pub const MAX_NAME: usize = 255;
 // The one octet of the label `*`.
 const STAR: u8 = b'*';
 
-// A name in wire form, as the octets that somebody holds. `read` alone makes one, so they are a name.
+// A name in wire form, as the octets that somebody holds. `read` makes one of octets that are a name, and `split_first`
+// one of what follows the first label of such a name.
 #[derive(Clone, Copy)]
 pub struct Name<'a> {
     octets: &'a [u8],

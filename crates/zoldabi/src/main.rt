@@ -49,7 +49,8 @@ fn refused(heap: Global, refusal: Refusal) -> Result<String, AllocError> {
     format!(heap, "refused {number}: {words}")
 }
 
-// The label count and the lower-case form of a name that may hold these types in some zone, which is kept.
+// The label count and the lower-case form of a name; it is kept. Refused are types that neither the rule for an apex nor
+// that for other names allows it.
 fn answer_name(
     heap: Global,
     kept: &mut Kept,
