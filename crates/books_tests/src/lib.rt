@@ -1,4 +1,6 @@
 // Lawful books that no one would ship, so that nothing leans on how a shipped book works.
+#![tactic(auto)]
+
 mod by_length;
 mod nothing;
 mod only_root;

@@ -1,7 +1,7 @@
 -- All rounds of a block: rounds of one kind after another, over the schedule taken as windows of 16 words.
 use Rattle.std.proofs.Common.{◌≡◌, ℕ, zero, suc, ◌+◌, ◌-◌, ◌*◌, ◌%◌, ◌<◌, ◌≤◌, true, false, ltb, ◌⊎◌, List, [], ◌∷◌, ◌++◌, length, get_or, take, drop, set, sym, refl, ap, ◌∙◌, inl, inr, append_assoc, append-nil, add-one, arith}
 use lib.Lanes.{fold_l}
-use Rattle.std.proofs.lemmas.Bool.{lt-ltb, le_ltb, cases_lt}
+use Rattle.std.proofs.lemmas.Bool.{lt-ltb, le-ltb, cases_lt}
 use Rattle.std.proofs.lemmas.List.{length-append, length-drop, get_or_append_left, get_or-append_right, get_or-drop, get_or-take, take_all, take-append-le, take-append-drop, length-take-le, drop_all, drop_more, drop-append-le, set_at}
 use Rattle.std.proofs.lemmas.List.Edits.{between_more, length-between}
 use Rattle.digests.specs.declared.sha1.rounds.State.{State}
@@ -37,13 +37,13 @@ same_choose : (t : ℕ) (s : State) (w : ℕ) → t < 20 → stepped t s w ≡ c
 same_choose t s w h = let e : ltb t 20 ≡ true = lt-ltb _ _ h in rw e
 
 same_first : (t : ℕ) (s : State) (w : ℕ) → 20 ≤ t → t < 40 → stepped t s w ≡ parting 0x6ed9eba1 s w
-same_first t s w g h = let e : ltb t 20 ≡ false = le_ltb _ _ g in let f : ltb t 40 ≡ true = lt-ltb _ _ h in rw (e, f)
+same_first t s w g h = let e : ltb t 20 ≡ false = le-ltb _ _ g in let f : ltb t 40 ≡ true = lt-ltb _ _ h in rw (e, f)
 
 same_majority : (t : ℕ) (s : State) (w : ℕ) → 40 ≤ t → t < 60 → stepped t s w ≡ majoring s w
-same_majority t s w g h = let e : ltb t 20 ≡ false = le_ltb _ _ (omega arith) in let f : ltb t 40 ≡ false = le_ltb _ _ g in let k : ltb t 60 ≡ true = lt-ltb _ _ h in rw (e, f, k)
+same_majority t s w g h = let e : ltb t 20 ≡ false = le-ltb _ _ (omega arith) in let f : ltb t 40 ≡ false = le-ltb _ _ g in let k : ltb t 60 ≡ true = lt-ltb _ _ h in rw (e, f, k)
 
 same_second : (t : ℕ) (s : State) (w : ℕ) → 60 ≤ t → stepped t s w ≡ parting 0xca62c1d6 s w
-same_second t s w g = let e : ltb t 20 ≡ false = le_ltb _ _ (omega arith) in let f : ltb t 40 ≡ false = le_ltb _ _ (omega arith) in let k : ltb t 60 ≡ false = le_ltb _ _ g in rw (e, f, k)
+same_second t s w g = let e : ltb t 20 ≡ false = le-ltb _ _ (omega arith) in let f : ltb t 40 ≡ false = le-ltb _ _ (omega arith) in let k : ltb t 60 ≡ false = le-ltb _ _ g in rw (e, f, k)
 
 -- a fold of one kind is the rounds from t on, as long as each is of that kind
 rounds_by : (f : State → ℕ → State) (lo hi : ℕ) → ((t : ℕ) (s : State) (w : ℕ) → lo ≤ t → t < hi → stepped t s w ≡ f s w) → (t : ℕ) (s : State) (ws : List ℕ) → lo ≤ t → t + length ws ≤ hi → fold_l f s ws ≡ rounds t s ws

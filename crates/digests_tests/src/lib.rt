@@ -1,4 +1,6 @@
 // SHA-1 and the sum of octets on messages in two parts, against digests that another program computed.
+#![tactic(auto)]
+
 use digests::byte_sum::ByteSum;
 use digests::digest::Digest;
 use digests::sha1::Sha1;

@@ -1,4 +1,6 @@
 // All names of a book with their types, in canonical order.
+#![tactic(auto)]
+
 ghost use Rattle.std.specs.Prelude.{◌≡◌, IfOk, if◌then◌else◌, None};
 ghost use Rattle.books.specs.Answers.{some};
 ghost use Rattle.books.specs.Held.{entry_after};

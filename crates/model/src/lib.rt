@@ -1,4 +1,6 @@
 // What is meant by a zone, its chain, a question and a judgement: definitions, and examples shown of them.
+#![tactic(auto)]
+
 ghost use Rattle.std.specs.Prelude.{◌≡◌, true};
 ghost use Rattle.model.specs.Examples.{Examples};
 

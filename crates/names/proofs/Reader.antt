@@ -1,10 +1,10 @@
 -- The reader: what a wire form is, label by label.
-use Rattle.std.proofs.Common.{◌≡◌, ℕ, zero, suc, ◌+◌, ◌*◌, ◌<◌, ◌≤◌, Bool, true, false, cond, ◌&&◌, eqb, leb, List, [], ◌∷◌, ◌++◌, map, length, get_or, take, drop, Some, None, Option, sym, refl, ap, ◌∙◌, ⊎_elim, add-one, arith}
-use Rattle.std.proofs.lemmas.List.{length-append, length-map, length-drop, length-take-le, take-append-drop}
-use Rattle.std.proofs.lemmas.Bool.{false≢true, true≢false, cases_Bool, and_parts}
+use Rattle.std.proofs.Common.{◌≡◌, ℕ, zero, suc, ◌+◌, ◌<◌, ◌≤◌, true, false, cond, ◌&&◌, eqb, leb, [], ◌∷◌, ◌++◌, map, length, get_or, take, drop, Some, None, sym, refl, ap, ◌∙◌, add-one, arith}
+use Rattle.std.proofs.lemmas.List.{length-append, length-map, length-take-le, take-append-drop}
+use Rattle.std.proofs.lemmas.Bool.{false≢true, cases_Bool, and_parts}
 use Rattle.std.proofs.lemmas.Bool.Decides.{nat_tests}
 use Rattle.names.specs.Types.{is_star}
-use Rattle.names.specs.Wire.{Octets, Label, Labels, lower, wire, none, ends, is_name, split, labels_of, parse, first_label, same_octets, after_label, after_labels, parent_of, lower_octets, is_label, are_labels}
+use Rattle.names.specs.Wire.{Octets, Labels, lower, ends, is_name, split, labels_of, first_label, same_octets, after_label, after_labels, parent_of, lower_octets, are_labels}
 
 pub same_octets_true : (a b : Octets) → same_octets a b ≡ true → a ≡ b
 same_octets_true [] [] h = refl

@@ -1,9 +1,8 @@
 -- Turns of the loops that compare names.
-use Rattle.std.proofs.Common.{◌≡◌, ℕ, suc, ◌+◌, ◌-◌, ◌<◌, ◌≤◌, min, Bool, true, false, cond, ◌&&◌, eqb, ltb, ◌⊎◌, List, [], ◌∷◌, ◌++◌, map, length, get_or, take, drop, Ordering, Less, Equal, Greater, sym, refl, ap, ◌∙◌, ap₂, inl, inr, ⊎_elim, arith}
+use Rattle.std.proofs.Common.{◌≡◌, ℕ, nat_cmp, ◌+◌, ◌-◌, ◌<◌, ◌≤◌, min, false, cond, ◌⊎◌, [], ◌∷◌, map, length, get_or, take, drop, Ordering, Less, Equal, Greater, sym, ap, ◌∙◌, ap₂, ⊎_elim, arith}
 use Rattle.std.proofs.lemmas.List.{drop_more, drop_all, nil_from_length, length-take-le, length-drop, take-append-drop}
 use Rattle.std.proofs.lemmas.Bool.{cases_Bool}
 use Rattle.std.proofs.lemmas.Bool.Decides.{nat_tests}
-use Rattle.std.specs.Ordering.{MatchOrdering}
 use Rattle.names.specs.Wire.{Octets, Labels, lower, same_octets}
 use Rattle.names.specs.Canonical.{by_number, or_else, by_octets, canonical, same_name, shared}
 use Rattle.names.proofs.Ordered.{canonical_total, canonical_cons, canonical_append, shared_cons, shared_append, shared_same, or_else_equal, or_else_assoc, same_octets_equal, same_octets_by_octets}
@@ -106,7 +105,7 @@ level_names n m p q x y k a b e f g =
     let l = level_parts n m (x - k) (y - k) (omega arith) (omega arith) (omega arith) (omega arith) in
     record { even = rw (f, g) l.even; shares = rw (f, g) l.shares; orders = rw (f, g) l.orders }
 
-pub ranked_number : (a b : ℕ) (o : Ordering) → MatchOrdering o (a < b) (a ≡ b) (b < a) → o ≡ by_number a b
+pub ranked_number : (a b : ℕ) (o : Ordering) → o ≡ nat_cmp a b → o ≡ by_number a b
 ranked_number a b o h = grind (arith, nat_tests)
 
 pub level_equal : (n m p q : Labels) (x y s : ℕ) (o f : Ordering) → Level n m p q → s ≡ shared p q → o ≡ canonical p q → o ≡ Equal → f ≡ by_number x y → x ≡ length n → y ≡ length m → (s ≡ shared n m) × (f ≡ canonical n m)

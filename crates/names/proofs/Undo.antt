@@ -1,11 +1,11 @@
 -- `wire` and `parse` undo each other.
-use Rattle.std.proofs.Common.{◌≡◌, ℕ, zero, suc, ◌+◌, ◌<◌, ◌≤◌, Bool, true, false, cond, ◌&&◌, eqb, leb, ◌⊎◌, List, [], ◌∷◌, ◌++◌, map, length, take, drop, Some, None, Option, sym, refl, ap, ◌∙◌, ap₂, inl, inr, ⊎_elim, arith}
+use Rattle.std.proofs.Common.{◌≡◌, ℕ, zero, suc, ◌≤◌, true, leb, ◌⊎◌, [], ◌∷◌, map, length, Some, None, Option, refl, ap, ◌∙◌, ap₂, inl, inr, ⊎_elim, arith}
 use Rattle.std.proofs.lemmas.List.{length-append, length-map, map-append, take_at, drop_at}
-use Rattle.std.proofs.lemmas.Bool.{false≢true, cases_Bool, and_parts}
+use Rattle.std.proofs.lemmas.Bool.{cases_Bool, and_parts}
 use Rattle.std.proofs.lemmas.Bool.Decides.{nat_tests}
 use Rattle.names.specs.Wire.{Octets, Label, Labels, lower, wire, ends, is_name, labels_of, parse, first_label, lower_octets, is_label, are_labels, is_labels}
 use Rattle.names.specs.Laws.{WireAndParse}
-use Rattle.names.proofs.Reader.{ends_first, labels_first, labels_none, first_parts, name_first, root_alone, rest_shorter, lower_octets_map, labels_whole}
+use Rattle.names.proofs.Reader.{ends_first, labels_first, labels_none, first_parts, name_first, root_alone, rest_shorter, lower_octets_map}
 
 pub map_lower_octets : (l : Octets) → lower_octets l ≡ true → map lower l ≡ l
 map_lower_octets [] h = refl

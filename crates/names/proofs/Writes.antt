@@ -1,10 +1,10 @@
 -- Names written to a buffer.
-use Rattle.std.proofs.Common.{◌≡◌, ℕ, suc, ◌+◌, ◌-◌, ◌<◌, ◌≤◌, min, Bool, true, false, cond, leb, List, [], ◌∷◌, ◌++◌, map, length, get_or, take, drop, set, Some, None, Option, sym, refl, ap, ◌∙◌, ap₂, ⊎_elim, arith}
+use Rattle.std.proofs.Common.{◌≡◌, ℕ, ◌+◌, ◌<◌, ◌≤◌, min, true, cond, leb, [], ◌∷◌, ◌++◌, map, length, get_or, take, drop, set, Some, None, Option, sym, ap, ◌∙◌, ap₂, ⊎_elim, arith}
 use borrow.Rule.Slice.PartMut.{put_mid}
-use Rattle.std.proofs.lemmas.List.{map_more, drop_more, set_at, append_assoc, length-map, length-take-le, take_all, drop_all, append-nil, length-append}
+use Rattle.std.proofs.lemmas.List.{map_more, drop_more, set_at, append_assoc, length-map, length-take-le, take_all, drop_all, append-nil}
 use Rattle.std.proofs.lemmas.Bool.{cases_lt}
 use Rattle.std.proofs.lemmas.Bool.Decides.{nat_tests}
-use Rattle.names.specs.Wire.{Octets, Labels, lower, wire, is_name, labels_of, written, star_name, Wrote, WroteStar}
+use Rattle.names.specs.Wire.{Octets, lower, wire, is_name, labels_of, written, star_name, Wrote, WroteStar}
 use Rattle.names.proofs.Undo.{wire_labels, name_short}
 
 -- one octet more

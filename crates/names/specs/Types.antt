@@ -2,7 +2,7 @@
 --
 -- A type is a number below 65536. A set of types is a list of words, one octet each, as many as `width` says:
 -- type t is the mask 128 shifted right by t mod 8, in word t div 8.
-use Rattle.std.specs.Prelude.{ℕ, zero, suc, ◌+◌, ◌*◌, ◌/◌, ◌%◌, ◌^◌, Bool, true, false, cond, not, ◌&&◌, ◌||◌, List, [], ◌∷◌, length, set, replicate, ◌==◌, bit_and, bit_or, nat_le, slice_index, slice_set}
+use Rattle.std.specs.Prelude.{ℕ, zero, suc, ◌*◌, ◌/◌, ◌%◌, ◌^◌, Bool, true, false, cond, not, ◌&&◌, ◌||◌, List, [], ◌∷◌, replicate, ◌==◌, bit_and, bit_or, nat_le, slice_index, slice_set}
 use Rattle.names.specs.Canonical.{same_name}
 use Rattle.names.specs.Wire.{Label, Labels, same_octets, star}
 

@@ -1,3 +1,5 @@
+#![tactic(auto)]
+
 pub mod name;
 pub mod refusal;
 pub mod types;

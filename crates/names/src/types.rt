@@ -1,10 +1,9 @@
 // Record types, and sets of them.
 ghost use Rattle.std.specs.Prelude.{◌≡◌};
+ghost use Rattle.names.specs.Same.{same_octets_equiv};
 ghost use Rattle.names.specs.TypeView.{words as words_in};
 ghost use Rattle.names.specs.Types.{asked, holdable};
 ghost use Rattle.names.specs.Wire.{same_octets};
-ghost use Rattle.std.specs.Cmp.Rules.{comparing};
-ghost use Rattle.std.proofs.Common.{rules};
 ghost use Rattle.std.specs.Cmp as Keys;
 
 mod members;
@@ -51,7 +50,7 @@ pub struct TypeSet {
 impl PartialEq for TypeSet {
     ghost eq = { λ a b. same_octets (words_in a) (words_in b) };
 
-    ghost laws = { Keys.partial_equiv_from_equiv (Prim.search (comparing, rules)) };
+    ghost laws = { Keys.partial_equiv_from_equiv (same_octets_equiv words_in) };
 
     fn eq(&self, other: &TypeSet) -> bool {
         self.words == other.words
@@ -59,7 +58,7 @@ impl PartialEq for TypeSet {
 }
 
 impl Eq for TypeSet {
-    ghost laws = { Prim.search (comparing, rules) };
+    ghost laws = { same_octets_equiv words_in };
 }
 
 // Whether records of type t may be asked for.

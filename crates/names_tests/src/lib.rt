@@ -1,3 +1,5 @@
+#![tactic(auto)]
+
 mod wire;
 
 use names::refusal::Refusal;

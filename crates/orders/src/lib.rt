@@ -1,4 +1,6 @@
 // Orders of places.
+#![tactic(auto)]
+
 pub mod canonical;
 pub mod order;
 pub mod salted;

@@ -1,4 +1,6 @@
 // Lawful orders that no one would ship, so that nothing leans on how a shipped order works.
+#![tactic(auto)]
+
 pub mod few_places;
 mod octets;
 pub mod one_place;

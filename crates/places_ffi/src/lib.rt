@@ -1,4 +1,6 @@
 // SHA-1, and places of names under salted orders over it, as functions that a C program can call.
+#![tactic(auto)]
+
 ghost use Rattle.std.specs.Prelude.{◌≡◌, ◌&&◌, ◌++◌, drop, if◌then◌else◌};
 ghost use Rattle.digests.specs.Sha.{sha1 as sha1_of};
 ghost use Rattle.names.specs.Wire.{is_name, wire};

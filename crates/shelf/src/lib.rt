@@ -1,4 +1,6 @@
 // Entries of any kind in slots that the caller lends.
+#![tactic(auto)]
+
 ghost use Rattle.std.specs.Prelude.{◌≡◌, ◌+◌, ◌<◌, ◌≤◌, ◌++◌, length, take, drop};
 ghost use Rattle.shelf.specs.Entries.{live, can_put, put_slots, put_count, taken, take_slots, take_count};
 ghost use Rattle.std.specs.List.{insert, remove};

@@ -1,4 +1,6 @@
 // A book that keeps its entries in canonical order, in slots that the caller lends.
+#![tactic(auto)]
+
 ghost use Rattle.std.specs.Prelude.{◌≡◌, ◌≤◌, true, length};
 ghost use Rattle.books.specs.Held.{rises};
 ghost use Rattle.shelf.specs.Entries.{live};

@@ -1,5 +1,7 @@
 // Reads a script from standard input, or from the file that its first argument names, and prints for each line
 // `LINE => ANSWER`.
+#![tactic(auto)]
+
 mod kept;
 mod words;
 

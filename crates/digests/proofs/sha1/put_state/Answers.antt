@@ -21,4 +21,4 @@ five o a b c d e o₁ o₂ o₃ o₄ o₅ l p q r s t f g h i j =
 pub returns : goal.returns
 returns c =
     five c.args.out.now (word c.args.s.a) (word c.args.s.b) (word c.args.s.c) (word c.args.s.d) (word c.args.s.e) _ _ _ _ _
-    (omega arith) refl refl refl refl refl c.put-word.ensures c.put-word-2.ensures c.put-word-3.ensures c.put-word-4.ensures c.put-word-5.ensures
+    (omega arith) refl refl refl refl refl c.put_word.ensures c.put_word-2.ensures c.put_word-3.ensures c.put_word-4.ensures c.put_word-5.ensures

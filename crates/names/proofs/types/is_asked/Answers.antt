@@ -3,9 +3,9 @@ use Rattle.std.proofs.lemmas.Bool.Decides.{nat_tests}
 use Rattle.names.specs.Types.{asked}
 use Rattle.names.proofs.types.is_asked.Goals as goal
 
-pub returns-then-t-lt-FIRST-ASKED : goal.returns-then-t-lt-FIRST-ASKED
+pub returns-then-t-lt-FIRST_ASKED : goal.returns-then-t-lt-FIRST_ASKED
 unfolding asked
-returns-then-t-lt-FIRST-ASKED c = grind (arith, nat_tests)
+returns-then-t-lt-FIRST_ASKED c = grind (arith, nat_tests)
 
 pub returns-then-t-ne-NSEC : goal.returns-then-t-ne-NSEC
 unfolding asked

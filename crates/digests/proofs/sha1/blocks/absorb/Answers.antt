@@ -3,7 +3,7 @@ use Rattle.digests.proofs.Joins.{after_more, run_all}
 use Rattle.digests.proofs.sha1.blocks.absorb.Goals as goal
 
 pub loop-k-preserved : goal.loop-k-preserved
-loop-k-preserved c = after_more c.args.s c.args.octets.now c.loop-k.k c.loop-k.x _ c.words-at.result c.compress-x.ensures c.words-at.ensures c.loop-k.invariant
+loop-k-preserved c = after_more c.args.s c.args.octets.now c.loop-k.k c.loop-k.x _ c.words_at.result c.compress-x.ensures c.words_at.ensures c.loop-k.invariant
 
 pub returns : goal.returns
 returns c = run_all c.args.s c.args.octets.now c.loop-k.k c.loop-k.x (omega arith) c.loop-k.invariant

@@ -6,4 +6,4 @@ pub returns : goal.returns
 returns c =
     let a = length c.args.a.now in
     let b = length c.args.b.now in
-    two_laid c.args.out.now c.args.a.now c.args.b.now _ _ (a - 0) (a + b - a) c.copy-from-slice.ensures.after c.copy-from-slice-2.ensures.after (omega arith) (omega arith)
+    two_laid c.args.out.now c.args.a.now c.args.b.now _ _ (a - 0) (a + b - a) c.copy_from_slice.ensures.after c.copy_from_slice-2.ensures.after (omega arith) (omega arith)

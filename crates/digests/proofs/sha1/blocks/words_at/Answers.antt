@@ -6,7 +6,7 @@ use Rattle.digests.proofs.sha1.blocks.words_at.Goals as goal
 
 pub loop-t-preserved : goal.loop-t-preserved
 loop-t-preserved c = (
-  fill_at (λ j. word_at c.args.s.now (c.args.i + j * 4)) c.loop-t.w c.loop-t.t _ c.word-at.ensures (omega arith) c.loop-t.invariant.0,
+  fill_at (λ j. word_at c.args.s.now (c.args.i + j * 4)) c.loop-t.w c.loop-t.t _ c.word_at.ensures (omega arith) c.loop-t.invariant.0,
   length-set _ _ _ ∙ c.loop-t.invariant.1,
 )
 

@@ -8,7 +8,7 @@ loop-i-init c = rolled_none c.args.w (search rules)
 pub loop-i-preserved : goal.loop-i-preserved
 loop-i-preserved c =
     let l : length c.args.w ≡ 16 = search rules in
-    rolled_more c.args.w c.loop-i.v c.loop-i.i _ l (omega arith) c.loop-i.invariant (c.rotate-left.ensures ∙ next_rolled c.args.w c.loop-i.v c.loop-i.i l (omega arith) c.loop-i.invariant)
+    rolled_more c.args.w c.loop-i.v c.loop-i.i _ l (omega arith) c.loop-i.invariant (c.rotate_left.ensures ∙ next_rolled c.args.w c.loop-i.v c.loop-i.i l (omega arith) c.loop-i.invariant)
 
 pub returns : goal.returns
 returns c = rolled_all c.args.w c.loop-i.v c.loop-i.i (search rules) (omega arith) c.loop-i.invariant

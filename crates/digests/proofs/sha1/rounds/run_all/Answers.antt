@@ -6,5 +6,5 @@ pub returns : goal.returns
 returns c =
     all_rounds c.args.s _ _ _ _ _ _ _ _ c.args.block.now _ _ _ _ (search rules)
     c.advance-w1.ensures c.advance-w2.ensures c.advance-w3.ensures c.advance-w4.ensures
-    c.run-choose-x0.ensures c.run-choose-x1.ensures c.run-parity-x2.ensures c.run-parity-x3.ensures
-    c.run-majority-x4.ensures c.run-majority-x5.ensures c.run-parity-x6.ensures c.run-parity-x7.ensures
+    c.run_choose-x0.ensures c.run_choose-x1.ensures c.run_parity-x2.ensures c.run_parity-x3.ensures
+    c.run_majority-x4.ensures c.run_majority-x5.ensures c.run_parity-x6.ensures c.run_parity-x7.ensures

@@ -2,8 +2,8 @@ use Rattle.std.proofs.Common.{length, sym, ap, arith}
 use Rattle.names.proofs.Reader.{labels_first, labels_none, labels_short, rest_shorter}
 use Rattle.names.proofs.name.Name.label_count.Goals as goal
 
-pub overflow-add-count : goal.overflow-add-count
-overflow-add-count c =
+pub overflow_add-count : goal.overflow_add-count
+overflow_add-count c =
     let e = ap length (labels_first c.loop-rest.left.now _ _ (sym c.in-Some.ensures)) in
     omega (arith, labels_short c.args.self.now.octets.now)
 
@@ -17,6 +17,6 @@ loop-rest-preserved c =
 
 pub returns : goal.returns
 returns c =
-    let e = ap length (labels_none c.loop-rest.left.now (sym c.in-default.ensures)) in
+    let e = ap length (labels_none c.loop-rest.left.now (sym c.in_default.ensures)) in
     let s = labels_short c.args.self.now.octets.now in
     record { value = omega arith; bound = omega arith }

@@ -1,4 +1,4 @@
-use Rattle.std.proofs.Common.{◌≡◌, ◌+◌, ◌≤◌, length}
+use Rattle.std.proofs.Common.{◌≡◌, ◌+◌, length}
 use Rattle.names.specs.Wire.{labels_of}
 use Rattle.names.specs.View.{labels}
 use Rattle.names.proofs.name.Name.label_count.Given as goal

@@ -1,11 +1,11 @@
-use Rattle.std.proofs.Common.{Some, None, sym, refl, ap}
+use Rattle.std.proofs.Common.{Some, sym, refl, ap}
 use Rattle.names.specs.Wire.{parent_of}
 use Rattle.names.proofs.Reader.{labels_first, labels_none, after_first}
 use Rattle.names.proofs.name.Name.parent.Goals as goal
 
-pub returns-in-default : goal.returns-in-default
-returns-in-default c =
-    let e = labels_none c.args.self.now.octets.now (sym c.in-default.ensures) in
+pub returns-in_default : goal.returns-in_default
+returns-in_default c =
+    let e = labels_none c.args.self.now.octets.now (sym c.in_default.ensures) in
     record { labels = sym (ap parent_of e); octets = refl }
 
 pub returns : goal.returns

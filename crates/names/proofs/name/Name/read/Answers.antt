@@ -5,9 +5,9 @@ use Rattle.names.proofs.Reader.{ends_first, ends_none, rest_shorter, only_zero}
 use Rattle.names.proofs.Undo.{wire_and_parse}
 use Rattle.names.proofs.name.Name.read.Goals as goal
 
-pub returns-then-octets-gt-MAX-NAME : goal.returns-then-octets-gt-MAX-NAME
+pub returns-then-octets-gt-MAX_NAME : goal.returns-then-octets-gt-MAX_NAME
 unfolding is_name
-returns-then-octets-gt-MAX-NAME c = record { octets = grind (arith, nat_tests); labels = grind (arith, nat_tests); refused = refl; undo = wire_and_parse }
+returns-then-octets-gt-MAX_NAME c = record { octets = grind (arith, nat_tests); labels = grind (arith, nat_tests); refused = refl; undo = wire_and_parse }
 
 pub loop-rest-smaller : goal.loop-rest-smaller
 loop-rest-smaller c = rest_shorter c.loop-rest.left.now _ _ (sym c.in-Some.ensures)
@@ -15,23 +15,23 @@ loop-rest-smaller c = rest_shorter c.loop-rest.left.now _ _ (sym c.in-Some.ensur
 pub loop-rest-preserved : goal.loop-rest-preserved
 loop-rest-preserved c = sym (ends_first c.loop-rest.left.now _ _ (sym c.in-Some.ensures)) ∙ c.loop-rest.invariant
 
-pub returns-in-default-left : goal.returns-in-default-left
+pub returns-in_default-left : goal.returns-in_default-left
 unfolding is_name
-returns-in-default-left c =
-    let e = ends_none c.loop-rest.left.now (sym c.in-default.ensures) in
+returns-in_default-left c =
+    let e = ends_none c.loop-rest.left.now (sym c.in_default.ensures) in
     let z = only_zero c.loop-rest.left.now in
     record { octets = grind (arith, nat_tests); labels = grind (arith, nat_tests); refused = refl; undo = wire_and_parse }
 
 pub returns-then-last-eq-END : goal.returns-then-last-eq-END
 unfolding is_name
 returns-then-last-eq-END c =
-    let e = ends_none c.loop-rest.left.now (sym c.in-default.ensures) in
+    let e = ends_none c.loop-rest.left.now (sym c.in_default.ensures) in
     let z = only_zero c.loop-rest.left.now in
     record { octets = grind (arith, nat_tests); labels = grind (arith, nat_tests); refused = tt; undo = wire_and_parse }
 
 pub returns-else-last-eq-END : goal.returns-else-last-eq-END
 unfolding is_name
 returns-else-last-eq-END c =
-    let e = ends_none c.loop-rest.left.now (sym c.in-default.ensures) in
+    let e = ends_none c.loop-rest.left.now (sym c.in_default.ensures) in
     let z = only_zero c.loop-rest.left.now in
     record { octets = grind (arith, nat_tests); labels = grind (arith, nat_tests); refused = refl; undo = wire_and_parse }

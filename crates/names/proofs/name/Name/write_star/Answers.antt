@@ -1,20 +1,20 @@
-use Rattle.std.proofs.Common.{◌≡◌, ◌+◌, true, false, cond, ◌∷◌, map, length, Some, None, sym, refl, ap, ◌∙◌}
+use Rattle.std.proofs.Common.{◌+◌, cond, ◌∷◌, map, length, Some, None, sym, ap, ◌∙◌}
 use Rattle.std.proofs.lemmas.Bool.{le-leb, lt-leb}
 use Rattle.names.specs.Wire.{lower, written}
 use Rattle.names.proofs.Writes.{star_front, wrote_star}
 use Rattle.names.proofs.name.Name.write_star.Goals as goal
 
-pub returns-then-n-gt-MAX-STARRED : goal.returns-then-n-gt-MAX-STARRED
-returns-then-n-gt-MAX-STARRED c =
-    let t = lt-leb (length c.args.self.now.octets.now) 253 c.if-n-gt-MAX-STARRED.true in
+pub returns-then-n-gt-MAX_STARRED : goal.returns-then-n-gt-MAX_STARRED
+returns-then-n-gt-MAX_STARRED c =
+    let t = lt-leb (length c.args.self.now.octets.now) 253 c.if-n-gt-MAX_STARRED.true in
     let v = sym (ap (λ b. cond b (Some (length c.args.self.now.octets.now + 2)) None) t) in
     let b = sym (ap (λ b. cond b (written (1 ∷ (42 ∷ map lower c.args.self.now.octets.now)) c.args.out.now) c.args.out.now) t) in
     record { value = v; buffer = b; name = λ p. wrote_star _ _ _ _ p v b }
 
 pub returns : goal.returns
 returns c =
-    let t = le-leb (length c.args.self.now.octets.now) 253 c.if-n-gt-MAX-STARRED.false in
-    let f = star_front c.args.self.now.octets.now c.args.out.now c.write-front.new.out c.write-front.result c.told-out c.if-n-gt-MAX-STARRED.false c.write-front.ensures.value c.write-front.ensures.buffer in
+    let t = le-leb (length c.args.self.now.octets.now) 253 c.if-n-gt-MAX_STARRED.false in
+    let f = star_front c.args.self.now.octets.now c.args.out.now c.write_front.new.out c.write_front.result c.told-out c.if-n-gt-MAX_STARRED.false c.write_front.ensures.value c.write_front.ensures.buffer in
     let v = sym (ap (λ b. cond b (Some (length c.args.self.now.octets.now + 2)) None) t) in
     let b = f ∙ sym (ap (λ b. cond b (written (1 ∷ (42 ∷ map lower c.args.self.now.octets.now)) c.args.out.now) c.args.out.now) t) in
     record { value = v; buffer = b; name = λ p. wrote_star _ _ _ _ p v b }

@@ -10,4 +10,4 @@ returns-then-i-ge-WORDS c = sym (has_past c.args.self.now.words c.args.t (omega 
 pub returns : goal.returns
 unfolding has
 returns c =
-    ap₂ (λ i m. not (eqb (bit_and (get_or c.args.self.now.words i 0) m) 0)) c.from-i.ensures c.mask-of.ensures
+    ap₂ (λ i m. not (eqb (bit_and (get_or c.args.self.now.words i 0) m) 0)) c.from-i.ensures c.mask_of.ensures

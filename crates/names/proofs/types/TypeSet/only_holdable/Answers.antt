@@ -3,9 +3,9 @@ use Rattle.names.specs.Types.{room, has, holdable, holdable_below, only_holdable
 use Rattle.names.proofs.TypeLaws.{not_holdable}
 use Rattle.names.proofs.types.TypeSet.only_holdable.Goals as goal
 
-pub returns-then-not-is-holdable : goal.returns-then-not-is-holdable
+pub returns-then-not-is_holdable : goal.returns-then-not-is_holdable
 unfolding only_holdable
-returns-then-not-is-holdable c =
+returns-then-not-is_holdable c =
     let ws = c.args.self.now.words in
     let h : has ws c.loop-t.t ≡ true = cc in
     let n : holdable c.loop-t.t ≡ false = cc in

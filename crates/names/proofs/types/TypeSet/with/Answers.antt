@@ -10,7 +10,7 @@ returns-then-i-lt-WORDS c =
     let ws = c.args.self.now.words in
     let i = c.from-i.result in
     let full : length ws ≡ width = omega arith in
-    let value : set ws i (bit_or (get_or ws i 0) c.mask-of.result) ≡ with ws c.args.t = cc in
+    let value : set ws i (bit_or (get_or ws i 0) c.mask_of.result) ≡ with ws c.args.t = cc in
     record { value = value; members = λ u. ap (λ s. has s u) value ∙ has_with ws c.args.t u full }
 
 pub returns-else-i-lt-WORDS : goal.returns-else-i-lt-WORDS
