@@ -1,13 +1,13 @@
 -- A rising list once an entry is put in or taken out.
-use Rattle.std.proofs.Common.{◌≡◌, ℕ, suc, ◌+◌, Bool, true, false, cond, ◌&&◌, List, [], ◌∷◌, ◌++◌, length, is_some, Some, None, Option, Ordering, Less, Equal, Greater, sym, refl, ap, ◌∙◌, arith}
-use Rattle.std.proofs.lemmas.Bool.{false≢true, cases_Bool, and_parts}
+use Rattle.std.proofs.Common.{◌≡◌, true, false, cond, [], ◌∷◌, Some, None, Ordering, Less, Equal, Greater, sym, refl, ap, ◌∙◌, arith}
+use Rattle.std.proofs.lemmas.Bool.{false≢true, cases_Bool}
 use Rattle.std.proofs.lemmas.Bool.Decides.{nat_tests}
 use Rattle.std.specs.Ordering.{is_lt}
-use Rattle.names.proofs.Ordered.{canonical_total, same_name_true, same_name_refl, same_name_equal}
+use Rattle.names.proofs.Ordered.{canonical_total, same_name_true, same_name_equal}
 use Rattle.names.specs.Canonical.{canonical, same_name}
 use Rattle.names.specs.Wire.{Labels, is_labels}
-use Rattle.books.proofs.Rising.{less_irreflexive, less_transitive, less_apart, less_not_back, rises_tail, rises_name}
-use Rattle.books.specs.Held.{Entry, Held, less, rises_from, rises, entry_of, with_entry, without_name, spent}
+use Rattle.books.proofs.Rising.{less_irreflexive, less_transitive, rises_tail}
+use Rattle.books.specs.Held.{Entry, Held, less, rises_from, rises, entry_of, with_entry, without_name}
 
 by_case : (a b : Labels) (o : Ordering) → canonical a b ≡ o → is_lt o ≡ false → (canonical a b ≡ Equal → less b a ≡ true) → (canonical a b ≡ Greater → canonical b a ≡ Less) → less b a ≡ true
 by_case a b Less e h k g = absurd (false≢true (sym h))

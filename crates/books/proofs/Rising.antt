@@ -1,10 +1,8 @@
 -- Lists of names that rise.
-use Rattle.std.proofs.Common.{◌≡◌, ℕ, Bool, true, false, cond, ◌&&◌, List, [], ◌∷◌, ◌++◌, Some, None, Option, Ordering, Less, Equal, Greater, sym, refl, ap, ◌∙◌, arith}
-use Rattle.std.proofs.lemmas.Bool.{false≢true, cases_Bool, and_parts}
-use Rattle.std.proofs.lemmas.Bool.Decides.{nat_tests}
-use Rattle.std.specs.Ordering.{is_lt}
+use Rattle.std.proofs.Common.{◌≡◌, true, false, [], ◌∷◌, ◌++◌, refl, ap, arith}
+use Rattle.std.proofs.lemmas.Bool.{cases_Bool}
 use Rattle.names.proofs.Ordered.{canonical_total, same_name_true, same_name_refl}
-use Rattle.names.specs.Canonical.{canonical, same_name}
+use Rattle.names.specs.Canonical.{same_name}
 use Rattle.names.specs.Wire.{Labels, is_labels}
 use Rattle.books.specs.Held.{Entry, Held, less, rises_from, rises, entry_after, first_entry, from_name}
 

@@ -1,5 +1,5 @@
 -- A name in a slot.
-use Rattle.std.proofs.Common.{◌≡◌, ℕ, ◌≤◌, true, List, [], ◌∷◌, ◌++◌, map, length, take, drop, replicate, sym, refl, ap, ◌∙◌, ap₂, arith}
+use Rattle.std.proofs.Common.{◌≡◌, ℕ, ◌≤◌, true, [], ◌∷◌, map, length, take, drop, sym, refl, ap, ◌∙◌, arith}
 use Rattle.std.proofs.lemmas.List.{take_at, length-map}
 use Rattle.names.proofs.Undo.{wire_labels, name_wire, are_labels_lem, labels_wire, labels_parts, name_short}
 use Rattle.names.specs.Wire.{Octets, Wrote, is_name, labels_of, wire, lower, written}

@@ -1,7 +1,6 @@
 -- What a book answers, and what it holds then.
-use Rattle.std.specs.Prelude.{ℕ, ◌+◌, Bool, true, false, cond, not, List, length, is_some, is_ok, Some, None, Ok, Err, Option, Result, nat_le}
+use Rattle.std.specs.Prelude.{ℕ, ◌+◌, cond, is_some, is_ok, Some, None, Ok, Err, Option, Result, nat_le}
 use Rattle.std.specs.Option.{option_map}
-use Rattle.std.specs.Result.{result_ok}
 pub use Rattle.names.specs.Refusals.{of_name}
 use Rattle.names.specs.Types.{Words}
 use Rattle.names.specs.Wire.{Octets, Labels, labels_of, wire, written}

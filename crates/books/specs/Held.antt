@@ -1,5 +1,5 @@
 -- What a book holds: names with their types, one list, strictly rising in canonical order.
-use Rattle.std.specs.Prelude.{ℕ, ◌+◌, Bool, true, false, cond, ◌&&◌, List, [], ◌∷◌, Some, None, Option}
+use Rattle.std.specs.Prelude.{ℕ, ◌+◌, Bool, true, cond, ◌&&◌, List, [], ◌∷◌, Some, None, Option}
 use Rattle.std.specs.Ordering.{is_lt}
 use Rattle.names.specs.Canonical.{canonical, same_name}
 use Rattle.names.specs.Types.{Words}

@@ -1,5 +1,5 @@
 -- A name and its types in a slot.
-use Rattle.std.specs.Prelude.{ℕ, List, [], ◌∷◌, map, length, take, replicate}
+use Rattle.std.specs.Prelude.{ℕ, map, length, take, replicate}
 use Rattle.names.specs.TypeView.{words}
 use Rattle.names.specs.Types.{Words, no_types}
 use Rattle.names.specs.Wire.{Octets, lower, labels_of, written}

@@ -1,5 +1,5 @@
 -- Salted orders.
-use Rattle.std.specs.Prelude.{◌≡◌, ℕ, Bool, true, false, cond, ◌&&◌, length, take, Ok, Err, Result, nat_le}
+use Rattle.std.specs.Prelude.{ℕ, Bool, cond, ◌&&◌, length, take, Ok, Err, Result, nat_le}
 use Rattle.names.specs.Wire.{Octets}
 use Rattle.names.specs.declared.refusal.Refusal.{Refusal}
 use Rattle.names.specs.declared.refusal.Refusal.TheVariants.{SettingNotAllowed}

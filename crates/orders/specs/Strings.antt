@@ -1,12 +1,12 @@
 -- Strings compared octet by octet.
-use Rattle.std.specs.Prelude.{◌≡◌, ℕ, ◌<◌, Bool, [], ◌∷◌}
+use Rattle.std.specs.Prelude.{◌≡◌, Bool, [], ◌∷◌}
 use Rattle.std.specs.declared.cmp.Ordering.TheVariants.{Less, Equal, Greater}
 use Rattle.std.specs.declared.cmp.Ordering.{Ordering}
-use Rattle.std.proofs.Common.{ap, ◌∙◌}
-use Rattle.std.specs.Cmp.Lexicographic.{Lex}
-use Rattle.std.specs.Ordering.{MatchOrdering}
+use Rattle.std.proofs.Common.{nat_cmp, refl, ap₂, ◌∙◌}
+use Rattle.std.specs.Cmp.Lexicographic.{slice_cmp}
+use Rattle.std.specs.Ordering.{ordering_then}
 use Rattle.names.proofs.Steps.{ranked_number}
-use Rattle.names.specs.Canonical.{by_number, or_else, by_octets}
+use Rattle.names.specs.Canonical.{or_else, by_octets}
 use Rattle.names.specs.Laws.{StrictTotal}
 use Rattle.names.specs.Wire.{Octets}
 use Rattle.orders.specs.Ring.{Ring}
@@ -21,22 +21,17 @@ total_ring is_place by t = record {
   transitive = λ a b c p q r e f. t.transitive a b c e f;
 }
 
+then_or : (o p : Ordering) → ordering_then o p ≡ or_else o p
+then_or Less p = refl
+then_or Equal p = refl
+then_or Greater p = refl
+
 -- what the comparison of slices answers
-abbrev pub Numbers : ℕ → ℕ → Ordering → Type 0
-Numbers x y r = MatchOrdering r (x < y) (x ≡ y) (y < x)
+slices_by_octets : (a b : Octets) → slice_cmp nat_cmp a b ≡ by_octets a b
+slices_by_octets [] [] = refl
+slices_by_octets [] (y ∷ ys) = refl
+slices_by_octets (x ∷ xs) [] = refl
+slices_by_octets (x ∷ xs) (y ∷ ys) = then_or (nat_cmp x y) (slice_cmp nat_cmp xs ys) ∙ ap₂ or_else (ranked_number x y _ refl) (slices_by_octets xs ys)
 
-lex_more : (o r : Ordering) (x y : ℕ) (xs ys : Octets) → o ≡ by_number x y → MatchOrdering o (r ≡ Less) (r ≡ by_octets xs ys) (r ≡ Greater) → r ≡ or_else (by_number x y) (by_octets xs ys)
-lex_more Less r x y xs ys e h = h ∙ ap (λ z. or_else z (by_octets xs ys)) e
-lex_more Equal r x y xs ys e h = h ∙ ap (λ z. or_else z (by_octets xs ys)) e
-lex_more Greater r x y xs ys e h = h ∙ ap (λ z. or_else z (by_octets xs ys)) e
-
-ranked_as : (o : Ordering) (P Q R S : Type 0) → (Q → S) → MatchOrdering o P Q R → MatchOrdering o P S R
-ranked_as Less P Q R S f h = h
-ranked_as Equal P Q R S f h = f h
-ranked_as Greater P Q R S f h = h
-
-pub lex_octets : (a b : Octets) (r : Ordering) → Lex Numbers a b r → r ≡ by_octets a b
-lex_octets [] [] r h = h
-lex_octets [] (y ∷ ys) r h = h
-lex_octets (x ∷ xs) [] r h = h
-lex_octets (x ∷ xs) (y ∷ ys) r h = lex_more h.0 r x y xs ys (ranked_number x y h.0 h.1) (ranked_as h.0 _ _ _ _ (lex_octets xs ys r) h.2)
+pub lex_octets : (a b : Octets) (r : Ordering) → r ≡ slice_cmp nat_cmp a b → r ≡ by_octets a b
+lex_octets a b r h = h ∙ slices_by_octets a b

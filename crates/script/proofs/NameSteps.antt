@@ -2,6 +2,9 @@
 use Rattle.std.proofs.Common.{◌≡◌, ℕ, ◌+◌, ◌-◌, ◌*◌, ◌<◌, ◌≤◌, Bool, true, false, cond, ◌&&◌, ◌||◌, eqb, leb, List, [], ◌∷◌, ◌++◌, length, get_or, take, drop, Some, None, Option, sym, refl, ap, ◌∙◌, arith}
 use Rattle.std.proofs.lemmas.List.{append_assoc, take_rest}
 use Rattle.std.proofs.lemmas.Bool.Decides.{nat_tests}
+use Rattle.std.proofs.lemmas.Bool.{false≢true}
+use Rattle.std.proofs.lemmas.Cmp.{nat_list_eq_equiv}
+use Rattle.std.specs.Cmp.{pointwise}
 use Rattle.names.specs.Wire.{Octets, Label, none}
 use Rattle.script.specs.NameText.{before, read_hex, is_hex, hex_value, read_labels, read_escape, read_name, is_plain, is_octet3, decimal3, is_whole}
 
@@ -9,6 +12,10 @@ use Rattle.script.specs.NameText.{before, read_hex, is_hex, hex_value, read_labe
 pub before_more : (v x : Octets) (o : Option Octets) → before (v ++ x) o ≡ before v (before x o)
 before_more v x None = refl
 before_more v x (Some t) = ap Some (append_assoc v x t)
+
+-- a text that a comparison tells apart from another is not that other
+pub differs : (s t : Octets) → false ≡ pointwise eqb s t → s ≡ t → ⊥
+differs s t h e = false≢true ((rw e at h) ∙ nat_list_eq_equiv.refl t)
 
 -- a test that was passed
 pub passed : (b : Bool) (x y : ℕ) → Some x ≡ cond b (Some y) None → (b ≡ true) × (x ≡ y)

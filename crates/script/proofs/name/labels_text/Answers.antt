@@ -1,8 +1,6 @@
-use Rattle.std.proofs.Common.{◌≡◌, string_bytes, sym, ap, ◌∙◌}
-use Rattle.std.proofs.lemmas.List.{append-nil}
-use Rattle.names.specs.View.{octets, labels}
+use Rattle.std.proofs.Common.{string_bytes, sym, ◌∙◌}
+use Rattle.names.specs.View.{octets}
 use Rattle.names.proofs.Reader.{labels_first, labels_none, rest_shorter}
-use Rattle.script.specs.NameText.{labels_text}
 use Rattle.script.proofs.NamePrint.{label_step, labels_end}
 use Rattle.script.proofs.name.labels_text.Goals as goal
 
@@ -11,11 +9,11 @@ loop-label-smaller c = rest_shorter (octets c.loop-label.left) _ _ (sym c.in-Som
 
 pub loop-label-preserved : goal.loop-label-preserved
 loop-label-preserved c =
-    label_step (octets c.loop-label.left) c.in-Some.label.now (octets c.in-Some.up) (string_bytes c.loop-label.text) (string_bytes c.push-label.new.text)
-    (string_bytes c.push-char.new.text)
+    label_step (octets c.loop-label.left) c.in-Some.label.now (octets c.in-Some.up) (string_bytes c.loop-label.text) (string_bytes c.push_label.new.text)
+    (string_bytes c.push_char.new.text)
     (labels_first (octets c.loop-label.left) _ _ (sym c.in-Some.ensures))
-    c.in-ok-push-label.ensures c.in-ok-push-char.ensures
+    c.in_ok-push_label.ensures c.in_ok-push_char.ensures
     ∙ c.loop-label.invariant
 
 pub returns : goal.returns
-returns c = labels_end (octets c.loop-label.left) _ _ (labels_none (octets c.loop-label.left) (sym c.in-default.ensures)) c.loop-label.invariant
+returns c = labels_end (octets c.loop-label.left) _ _ (labels_none (octets c.loop-label.left) (sym c.in_default.ensures)) c.loop-label.invariant

@@ -1,31 +1,31 @@
-use Rattle.std.proofs.Common.{◌≡◌, true, [], ◌∷◌, sym, ap, ◌∙◌, arith}
+use Rattle.std.proofs.Common.{◌≡◌, true, [], ◌∷◌, sym, ap, ◌∙◌}
 use Rattle.std.proofs.lemmas.List.{nil_from_length}
 use Rattle.std.proofs.lemmas.Result.{IfOk-weaker}
-use Rattle.names.specs.View.{octets, labels}
+use Rattle.names.specs.View.{octets}
 use Rattle.names.specs.Wire.{labels_of}
 use Rattle.script.specs.NameText.{are_octets, name_text}
 use Rattle.script.proofs.NamePrint.{some_labels, name_back}
 use Rattle.script.proofs.name.name_text.Goals as goal
 
-pub returns-then-label-count-eq0 : goal.returns-then-label-count-eq0
-returns-then-label-count-eq0 c =
+pub returns-then-label_count-eq0 : goal.returns-then-label_count-eq0
+returns-then-label_count-eq0 c =
     let o = octets c.args.name.now in
-    let b : are_octets o ≡ true = ap are_octets (sym c.octets.ensures) ∙ c.octets-fit.ensures in
-    let n : labels_of o ≡ [] = nil_from_length (labels_of o) (sym c.label-count.ensures.value ∙ c.if-label-count-eq0.true) in
+    let b : are_octets o ≡ true = ap are_octets (sym c.octets.ensures) ∙ c.octets_fit.ensures in
+    let n : labels_of o ≡ [] = nil_from_length (labels_of o) (sym c.label_count.ensures.value ∙ c.if-label_count-eq0.true) in
     let q : 46 ∷ [] ≡ name_text (labels_of o) = sym (ap name_text n) in
-    let m = c.from-str.ensures.ok in
+    let m = c.from_str.ensures.ok in
     record {
-      text = IfOk-weaker c.from-str.result _ _ (λ t p. p ∙ q) m;
-      reads-back = IfOk-weaker c.from-str.result _ _ (λ t p. name_back o _ b (p ∙ q)) m;
+      text = IfOk-weaker c.from_str.result _ _ (λ t p. p ∙ q) m;
+      reads_back = IfOk-weaker c.from_str.result _ _ (λ t p. name_back o _ b (p ∙ q)) m;
     }
 
 pub returns : goal.returns
 returns c =
     let o = octets c.args.name.now in
-    let b : are_octets o ≡ true = ap are_octets (sym c.octets.ensures) ∙ c.octets-fit.ensures in
-    let q = some_labels (labels_of o) (λ z. c.if-label-count-eq0.false (c.label-count.ensures.value ∙ z)) in
-    let m = c.labels-text.ensures in
+    let b : are_octets o ≡ true = ap are_octets (sym c.octets.ensures) ∙ c.octets_fit.ensures in
+    let q = some_labels (labels_of o) (λ z. c.if-label_count-eq0.false (c.label_count.ensures.value ∙ z)) in
+    let m = c.labels_text.ensures in
     record {
-      text = IfOk-weaker c.labels-text.result _ _ (λ t p. p ∙ q) m;
-      reads-back = IfOk-weaker c.labels-text.result _ _ (λ t p. name_back o _ b (p ∙ q)) m;
+      text = IfOk-weaker c.labels_text.result _ _ (λ t p. p ∙ q) m;
+      reads_back = IfOk-weaker c.labels_text.result _ _ (λ t p. name_back o _ b (p ∙ q)) m;
     }

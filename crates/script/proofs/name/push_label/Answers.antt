@@ -4,7 +4,7 @@ use Rattle.script.proofs.name.push_label.Goals as goal
 
 pub loop-x-preserved : goal.loop-x-preserved
 loop-x-preserved c =
-    label_more c.loop-x.x-index c.args.label.now _ _ _ (omega arith) c.in-ok-push-octet.ensures c.to-ascii-lowercase.ensures.value
+    label_more c.loop-x.x-index c.args.label.now _ _ _ (omega arith) c.in_ok-push_octet.ensures c.to_ascii_lowercase.ensures.value
     ∙ c.loop-x.invariant
 
 pub returns : goal.returns

@@ -4,4 +4,4 @@ use Rattle.script.proofs.name.push_octet.Goals as goal
 
 pub returns : goal.returns
 returns c =
-    escaped_text _ _ _ _ _ c.args.x (sym c.if-is-shown.ensures) c.in-ok-push-char.ensures c.in-ok-push-char-2.ensures c.in-ok-push-char-3.ensures c.in-ok-push-char-4.ensures
+    escaped_text _ _ _ _ _ c.args.x (sym c.if-is_shown.ensures) c.in_ok-push_char.ensures c.in_ok-push_char-2.ensures c.in_ok-push_char-3.ensures c.in_ok-push_char-4.ensures

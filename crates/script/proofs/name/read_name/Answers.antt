@@ -6,6 +6,6 @@ use Rattle.script.proofs.name.read_name.Goals as goal
 
 pub returns-then-first-eq-EQUALS : goal.returns-then-first-eq-EQUALS
 returns-then-first-eq-EQUALS c =
-    subst (λ o. Reads vec_items NotAName c.read-hex.result o)
-    (hex_name c.as-bytes-octets.result.now c.args.text.now c.as-bytes-octets.ensures.value (omega (arith, ltb-false)) c.if-first-eq-EQUALS.true)
-    c.read-hex.ensures
+    subst (λ o. Reads vec_items NotAName c.read_hex.result o)
+    (hex_name c.as_bytes-octets.result.now c.args.text.now c.as_bytes-octets.ensures.value (omega (arith, ltb-false)) c.if-first-eq-EQUALS.true)
+    c.read_hex.ensures

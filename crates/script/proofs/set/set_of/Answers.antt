@@ -1,4 +1,4 @@
-use Rattle.std.proofs.Common.{◌+◌, get_or, drop, sym, ap, ◌∙◌, arith}
+use Rattle.std.proofs.Common.{◌+◌, drop, sym, ap, ◌∙◌}
 use Rattle.names.specs.TypeView.{words}
 use Rattle.script.proofs.SetSteps.{set_with, set_past, set_more, set_end}
 use Rattle.script.proofs.set.set_of.Goals as goal

@@ -7,8 +7,8 @@ use Rattle.script.proofs.set.set_text.Goals as goal
 
 pub returns : goal.returns
 returns c =
-    let e = c.deref.ensures.value ∙ c.in-ok-types.ensures in
+    let e = c.deref.ensures.value ∙ c.in_ok-types.ensures in
     record {
-      text = IfOk-weaker c.types-text.result _ _ (λ s p. p ∙ ap types_text e) c.types-text.ensures.text;
-      reads-back = IfOk-weaker c.types-text.result _ _ (λ s p. text_back (words c.args.set.now) (string_bytes s) c.set-fits.ensures.wide c.set-fits.ensures.octets (p ∙ ap Some e)) c.types-text.ensures.reads-back;
+      text = IfOk-weaker c.types_text.result _ _ (λ s p. p ∙ ap types_text e) c.types_text.ensures.text;
+      reads_back = IfOk-weaker c.types_text.result _ _ (λ s p. text_back (words c.args.set.now) (string_bytes s) c.set_fits.ensures.wide c.set_fits.ensures.octets (p ∙ ap Some e)) c.types_text.ensures.reads_back;
     }

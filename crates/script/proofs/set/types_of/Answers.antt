@@ -1,15 +1,15 @@
-use Rattle.std.proofs.Common.{◌≡◌, ◌≤◌, vec_items, sym, ap, ◌∙◌, arith}
+use Rattle.std.proofs.Common.{◌≡◌, vec_items, sym, ap, ◌∙◌, arith}
 use Rattle.names.specs.TypeView.{words}
 use Rattle.names.specs.Types.{room}
 use Rattle.script.specs.SetText.{types_below}
 use Rattle.script.proofs.SetSteps.{types_all, types_hit, types_miss}
 use Rattle.script.proofs.set.types_of.Goals as goal
-use Rattle.script.proofs.set.types_of.Goals.{then-has+in-ok-push, else-has}
+use Rattle.script.proofs.set.types_of.Goals.{then-has+in_ok-push, else-has}
 
 pub loop-t-preserved : goal.loop-t-preserved
 loop-t-preserved c =
     elim c.if-has.branch [
-      | then-has+in-ok-push w ↦ ap vec_items w.types-is ∙ types_hit c.loop-t.t (words c.args.set.now) _ _ c.loop-t.invariant (sym c.has.ensures ∙ w.if-has.true) w.in-ok-push.ensures.items
+      | then-has+in_ok-push w ↦ ap vec_items w.types-is ∙ types_hit c.loop-t.t (words c.args.set.now) _ _ c.loop-t.invariant (sym c.has.ensures ∙ w.if-has.true) w.in_ok-push.ensures.items
       | else-has w ↦ ap vec_items w.types-is ∙ types_miss c.loop-t.t (words c.args.set.now) _ c.loop-t.invariant (sym c.has.ensures ∙ w.if-has.false)
     ]
 

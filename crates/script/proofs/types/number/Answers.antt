@@ -7,5 +7,5 @@ use Rattle.script.proofs.types.number.Goals as goal
 pub returns : goal.returns
 returns c =
     let s = c.args.text.now in
-    let d : are_digits s ≡ true = ap are_digits (sym c.as-bytes.ensures.value) ∙ sym c.if-not-are-digits.ensures in
+    let d : are_digits s ≡ true = ap are_digits (sym c.as_bytes.ensures.value) ∙ sym c.if-not-are_digits.ensures in
     c.ok.ensures.value ∙ parsed s c.parse.result (parse_digits own 16 s c.parse.result c.parse.ensures.value.0 d) (omega arith) d

@@ -3,5 +3,5 @@ use Rattle.orders.proofs.canonical.CanonicalOrder.write_place.Goals as goal
 
 pub returns : goal.returns
 returns c =
-    let w = place_written_lem c.args.name.now _ c.args.out.now c.write-lower.new.out c.write-lower.result c.in-ok-name.ensures.octets c.write-lower.ensures.name in
+    let w = place_written_lem c.args.name.now _ c.args.out.now c.write_lower.new.out c.write_lower.result c.in_ok-name.ensures.octets c.write_lower.ensures.name in
     record { value = w.value; buffer = w.buffer }

@@ -1,15 +1,15 @@
-use Rattle.std.proofs.Common.{◌≡◌, ◌-◌, ◌++◌, length, sym, ap, ◌∙◌, ap₂, arith, rules}
+use Rattle.std.proofs.Common.{◌≡◌, ◌-◌, ◌++◌, ◌∙◌, ap₂, arith, rules}
 use native.Mathlib.Nat.{sub-zero}
 use Rattle.orders.specs.Places.{iterated}
 use Rattle.orders.specs.Salts.{salt_of, iterations_of}
-use Rattle.orders.specs.Hashes.{Step, rest_stays, step_first, step_more}
+use Rattle.orders.specs.Hashes.{rest_stays, step_first, step_more}
 use Rattle.orders.proofs.salted.Salted.iterate.Goals as goal
 
 pub loop-init : goal.loop-init
 loop-init g c = (c.digest-n.ensures.value, step_first g.D.Digest.hash g.D.Digest.width g.met.D.Digest.exact (salt_of c.args.self.now) c.salt-salt.result.now c.args.octets.now c.args.out.now c.digest-n.new.out c.salt-salt.ensures c.digest-n.ensures.buffer, c.digest-n.array_long)
 
-pub slice-bounds-digest-end : goal.slice-bounds-digest-end
-slice-bounds-digest-end g c = let n = c.loop.invariant.0 in let s = g.met.D.Digest.short in let l = c.loop.invariant.2 in omega arith
+pub slice_bounds-digest-end : goal.slice_bounds-digest-end
+slice_bounds-digest-end g c = let n = c.loop.invariant.0 in let s = g.met.D.Digest.short in let l = c.loop.invariant.2 in omega arith
 
 pub loop-preserved : goal.loop-preserved
 loop-preserved g c = (c.digest-n-in-loop.ensures.value, step_more g.D.Digest.hash g.D.Digest.width g.met.D.Digest.exact (salt_of c.args.self.now) c.salt-salt.result.now c.args.octets.now c.digest-n.new.out c.loop.counter (c.loop.n - 0) c.loop.out c.digest-n-in-loop.new.out c.salt-salt.ensures (sub-zero c.loop.n ∙ c.loop.invariant.0) c.loop.invariant.1 c.digest-n-in-loop.ensures.buffer, c.digest-n-in-loop.array_long)
