@@ -1,11 +1,9 @@
 -- The steps of printing a name, and what a name's labels are.
-use Rattle.std.proofs.Common.{◌≡◌, ℕ, zero, suc, ◌+◌, ◌-◌, ◌/◌, ◌%◌, ◌<◌, ◌≤◌, min, Bool, true, false, cond, ◌&&◌, eqb, leb, List, [], ◌∷◌, ◌++◌, map, length, get_or, take, drop, Some, sym, refl, ap, ◌∙◌, ⊎_elim, arith}
-use native.Mathlib.Nat.{min-eq_left, min-eq_right}
-use Rattle.std.proofs.lemmas.List.{append_assoc, append-nil, take_rest, drop_more, drop_all, take_all}
-use Rattle.std.proofs.lemmas.Bool.{false≢true, and_parts, cases_lt}
+use Rattle.std.proofs.Common.{◌≡◌, ℕ, zero, suc, ◌+◌, ◌/◌, ◌%◌, ◌<◌, ◌≤◌, true, false, [], ◌∷◌, ◌++◌, map, length, get_or, drop, Some, sym, refl, ap, ◌∙◌, arith}
+use Rattle.std.proofs.lemmas.List.{append_assoc, append-nil, drop_more, drop_all}
 use Rattle.std.proofs.lemmas.Bool.Decides.{nat_tests}
 use Rattle.std.specs.Char as text
-use Rattle.names.specs.Wire.{wire, Octets, Label, Labels, lower, ends, none, split, is_name, labels_of, lower_octets, are_labels}
+use Rattle.names.specs.Wire.{wire, Octets, Labels, lower, split, labels_of}
 use Rattle.names.proofs.Reader.{labels_whole}
 use Rattle.script.proofs.NameRound.{name_round}
 use Rattle.script.specs.NameText.{read_name, octet_text, label_text, labels_text, name_text, is_shown, are_octets, are_octet_labels}

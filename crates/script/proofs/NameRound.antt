@@ -1,10 +1,10 @@
 -- A name that is printed reads back.
-use Rattle.std.proofs.Common.{◌≡◌, ℕ, ◌+◌, ◌-◌, ◌*◌, ◌/◌, ◌%◌, ◌<◌, ◌≤◌, Bool, true, false, cond, ◌&&◌, ◌||◌, eqb, leb, List, [], ◌∷◌, ◌++◌, length, Some, None, Option, sym, refl, ap, ◌∙◌, inl, inr, ⊎_elim, arith}
+use Rattle.std.proofs.Common.{◌≡◌, ℕ, ◌+◌, ◌/◌, ◌%◌, ◌≤◌, true, false, eqb, [], ◌∷◌, ◌++◌, Some, sym, refl, ap, ◌∙◌, ⊎_elim, arith}
 use Rattle.std.proofs.lemmas.List.{append_assoc, append-nil}
 use Rattle.std.proofs.lemmas.Bool.{cases_Bool}
 use Rattle.std.proofs.lemmas.Bool.Decides.{nat_tests}
-use Rattle.names.specs.Wire.{Octets, Label, Labels, wire, is_label, are_labels, lower_octets, none}
-use Rattle.script.specs.NameText.{read_labels, read_escape, read_name, name_text, labels_text, label_text, octet_text, is_shown, is_plain, is_digit, is_octet3, decimal3, before, is_whole, within, are_octets, are_octet_labels}
+use Rattle.names.specs.Wire.{Octets, Label, Labels, wire, are_labels}
+use Rattle.script.specs.NameText.{read_labels, read_name, name_text, labels_text, label_text, octet_text, is_shown, is_plain, is_octet3, decimal3, is_whole, are_octets, are_octet_labels}
 
 -- the three digits of an octet are digits, and write it
 octet3 : (x : ℕ) → x ≤ 255 → is_octet3 (48 + x / 100) (48 + x / 10 % 10) (48 + x % 10) ≡ true

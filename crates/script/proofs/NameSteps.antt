@@ -1,11 +1,11 @@
 -- The steps of the readers of names, as the code takes them.
-use Rattle.std.proofs.Common.{◌≡◌, ℕ, ◌+◌, ◌-◌, ◌*◌, ◌<◌, ◌≤◌, Bool, true, false, cond, ◌&&◌, ◌||◌, eqb, leb, List, [], ◌∷◌, ◌++◌, length, get_or, take, drop, Some, None, Option, sym, refl, ap, ◌∙◌, arith}
+use Rattle.std.proofs.Common.{◌≡◌, ℕ, ◌+◌, ◌-◌, ◌*◌, ◌<◌, ◌≤◌, Bool, true, false, cond, eqb, [], ◌∷◌, ◌++◌, length, get_or, take, drop, Some, None, Option, sym, refl, ap, ◌∙◌, arith}
 use Rattle.std.proofs.lemmas.List.{append_assoc, take_rest}
 use Rattle.std.proofs.lemmas.Bool.Decides.{nat_tests}
 use Rattle.std.proofs.lemmas.Bool.{false≢true}
 use Rattle.std.proofs.lemmas.Cmp.{nat_list_eq_equiv}
-use Rattle.std.specs.Cmp.{pointwise}
-use Rattle.names.specs.Wire.{Octets, Label, none}
+use Rattle.std.specs.Cmp.Lexicographic.{pointwise}
+use Rattle.names.specs.Wire.{Octets, Label}
 use Rattle.script.specs.NameText.{before, read_hex, is_hex, hex_value, read_labels, read_escape, read_name, is_plain, is_octet3, decimal3, is_whole}
 
 -- octets before octets before a rest

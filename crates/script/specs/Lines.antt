@@ -1,6 +1,6 @@
 -- The lines of a script. A line is a command and its words, with spaces between them; `#` begins a comment.
 --   name NAME TYPES   list
-use Rattle.std.specs.Prelude.{ℕ, Bool, true, false, cond, List, [], ◌∷◌, Some, None, Ok, Err, codes, Option, Result, ◌==◌}
+use Rattle.std.specs.Prelude.{ℕ, cond, [], ◌∷◌, Some, None, Ok, Err, codes, Option, Result, ◌==◌}
 use Rattle.names.specs.Types.{Words}
 use Rattle.names.specs.Wire.{Octets, none, same_octets}
 use Rattle.script.specs.NameText.{read_name}

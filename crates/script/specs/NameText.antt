@@ -3,7 +3,7 @@
 -- A name is its labels, each followed by a dot; the root is a dot alone. In a label a letter, a digit, `-`, `_` and `*`
 -- stand for themselves, and `\` with three decimal digits for the octet of that value.
 -- `=` with pairs of hexadecimal digits stands for these octets, a name or not.
-use Rattle.std.specs.Prelude.{ℕ, ◌+◌, ◌-◌, ◌*◌, ◌/◌, ◌%◌, Bool, true, false, cond, ◌&&◌, ◌||◌, List, [], ◌∷◌, ◌++◌, length, Some, None, Option, ◌==◌, nat_le}
+use Rattle.std.specs.Prelude.{ℕ, ◌+◌, ◌-◌, ◌*◌, ◌/◌, ◌%◌, Bool, true, cond, ◌&&◌, ◌||◌, [], ◌∷◌, ◌++◌, length, Some, None, Option, ◌==◌, nat_le}
 use Rattle.names.specs.Wire.{Octets, Label, Labels, none}
 
 -- c is one of the characters from low to high

@@ -1,5 +1,5 @@
 -- Sets of types as text: the types of the set, each below the room that a set has.
-use Rattle.std.specs.Prelude.{ℕ, zero, suc, Bool, true, false, cond, ◌&&◌, List, [], ◌∷◌, ◌++◌, Some, None, Option, nat_lt}
+use Rattle.std.specs.Prelude.{ℕ, zero, suc, Bool, true, cond, ◌&&◌, List, [], ◌∷◌, ◌++◌, Some, None, Option, nat_lt}
 use Rattle.names.specs.Types.{Words, room, has, with, no_types}
 use Rattle.names.specs.Wire.{Octets}
 use Rattle.script.specs.TypeText.{read_types, types_text}

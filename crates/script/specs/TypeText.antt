@@ -1,6 +1,6 @@
 -- Record types as text: a decimal number of 1 to 5 digits, at most 65535, or a mnemonic, in either case.
 -- A list of types has commas between them; `-` is the empty list.
-use Rattle.std.specs.Prelude.{ℕ, ◌+◌, ◌-◌, ◌*◌, Bool, true, false, cond, ◌&&◌, List, [], ◌∷◌, ◌++◌, map, length, Some, None, codes, decimal, Option, ◌==◌, nat_le}
+use Rattle.std.specs.Prelude.{ℕ, ◌+◌, ◌-◌, ◌*◌, Bool, true, cond, ◌&&◌, List, [], ◌∷◌, ◌++◌, map, length, Some, None, codes, decimal, Option, ◌==◌, nat_le}
 use Rattle.std.specs.Char.{to_ascii_lowercase}
 use Rattle.names.specs.Wire.{Octets, same_octets}
 use Rattle.script.specs.NameText.{is_digit, before}

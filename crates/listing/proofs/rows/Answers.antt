@@ -17,16 +17,16 @@ loop-slot-init g c =
     )
 
 -- the turn that the loop makes
-made : (g : given.Over) (c : goal.In-ok-push g) → Turn (entries_in (vec_items c.loop-slot.rows)) (entry_in c.in-Some-2.row) (option_map (g.B.Book.entry c.args.book.now) c.slot-after-slot.result) (g.B.Book.held c.args.book.now) (g.B.Book.entry c.args.book.now c.in-Some.s)
+made : (g : given.Over) (c : goal.In_ok-push g) → Turn (entries_in (vec_items c.loop-slot.rows)) (entry_in c.in-Some-2.row) (option_map (g.B.Book.entry c.args.book.now) c.slot_after-slot.result) (g.B.Book.held c.args.book.now) (g.B.Book.entry c.args.book.now c.in-Some.s)
 made g c =
-    turn_at (g.B.Book.entry c.args.book.now) c.loop-slot.slot c.slot-after-slot.result c.in-Some.s (entries_in (vec_items c.loop-slot.rows)) (g.B.Book.held c.args.book.now) (vec_items c.in-Some-2.row.octets) c.deref.result.now (words c.in-Some-2.row.types)
+    turn_at (g.B.Book.entry c.args.book.now) c.loop-slot.slot c.slot_after-slot.result c.in-Some.s (entries_in (vec_items c.loop-slot.rows)) (g.B.Book.held c.args.book.now) (vec_items c.in-Some-2.row.octets) c.deref.result.now (words c.in-Some-2.row.types)
     c.in-Some.is
     (g.B.Book.rising c.args.book.now)
     c.loop-slot.invariant.0
     c.loop-slot.invariant.1
-    (sym (ap (option_map shown_by) c.in-Some-2.is) ∙ c.in-ok-row.ensures)
+    (sym (ap (option_map shown_by) c.in-Some-2.is) ∙ c.in_ok-row.ensures)
     c.deref.ensures.value
-    c.slot-after-slot.ensures
+    c.slot_after-slot.ensures
 
 pub loop-slot-smaller : goal.loop-slot-smaller
 loop-slot-smaller g c =
@@ -37,5 +37,5 @@ loop-slot-smaller g c =
 pub loop-slot-preserved : goal.loop-slot-preserved
 loop-slot-preserved g c =
     let t = made g c in
-    let f = ap entries_in c.in-ok-push.ensures.items ∙ map_push entry_in (vec_items c.loop-slot.rows) c.in-Some-2.row in
-    (ap (λ rs. rs ++ from_slot (option_map (g.B.Book.entry c.args.book.now) c.slot-after-slot.result) (g.B.Book.held c.args.book.now)) f ∙ t.again, t.first)
+    let f = ap entries_in c.in_ok-push.ensures.items ∙ map_push entry_in (vec_items c.loop-slot.rows) c.in-Some-2.row in
+    (ap (λ rs. rs ++ from_slot (option_map (g.B.Book.entry c.args.book.now) c.slot_after-slot.result) (g.B.Book.held c.args.book.now)) f ∙ t.again, t.first)

@@ -9,20 +9,20 @@ use Rattle.journal.proofs.Places.{after_here, some_is}
 use Rattle.journal.proofs.scan.better.Goals as goal
 use Rattle.journal.proofs.scan.better.Goals.{else-is-less-via-then-is-less+then-is-before+else-is-live, else-is-less-via-then-is-less+else-is-before, else-is-less-via-else-is-less}
 
-pub returns-then-is-live : goal.returns-then-is-live
-returns-then-is-live c =
+pub returns-then-is_live : goal.returns-then-is_live
+returns-then-is_live c =
     let h = after_here (labels c.args.after.now) (labels c.name-name.result) c.args.notes.now c.args.i c.index-notes-i.result c.requires.0 c.index-notes-i.is c.name-name.ensures.labels in
-    let p = c.if-is-less.ensures in
-    let l = c.if-is-live.ensures in
-    let b = c.if-is-before.ensures (entry_after (labels c.args.after.now) (held_by (drop (c.args.i + 1) (shown c.args.notes.now)))) c.requires.1 in
+    let p = c.if-is_less.ensures in
+    let l = c.if-is_live.ensures in
+    let b = c.if-is_before.ensures (entry_after (labels c.args.after.now) (held_by (drop (c.args.i + 1) (shown c.args.notes.now)))) c.requires.1 in
     let q : entry_after (labels c.args.after.now) (held_by (drop c.args.i (shown c.args.notes.now))) ≡ entry_at (shown c.args.notes.now) c.args.i = grind (arith, nat_tests) in
     some_is (entry_at (shown c.args.notes.now) c.args.i) (sym l) ∙ ap some (sym q)
 
-pub returns-else-is-less : goal.returns-else-is-less
-returns-else-is-less c =
+pub returns-else-is_less : goal.returns-else-is_less
+returns-else-is_less c =
     let h = after_here (labels c.args.after.now) (labels c.name-name.result) c.args.notes.now c.args.i c.index-notes-i.result c.requires.0 c.index-notes-i.is c.name-name.ensures.labels in
-    c.requires.1 ∙ ap some (elim c.else-is-less.branch [
-      | else-is-less-via-then-is-less+then-is-before+else-is-live w ↦ let l = w.if-is-live.ensures in grind (arith, nat_tests)
-      | else-is-less-via-then-is-less+else-is-before w ↦ let b = w.if-is-before.ensures (entry_after (labels c.args.after.now) (held_by (drop (c.args.i + 1) (shown c.args.notes.now)))) c.requires.1 in grind (arith, nat_tests)
-      | else-is-less-via-else-is-less w ↦ let p = w.if-is-less.ensures in grind (arith, nat_tests)
+    c.requires.1 ∙ ap some (elim c.else-is_less.branch [
+      | else-is-less-via-then-is-less+then-is-before+else-is-live w ↦ let l = w.if-is_live.ensures in grind (arith, nat_tests)
+      | else-is-less-via-then-is-less+else-is-before w ↦ let b = w.if-is_before.ensures (entry_after (labels c.args.after.now) (held_by (drop (c.args.i + 1) (shown c.args.notes.now)))) c.requires.1 in grind (arith, nat_tests)
+      | else-is-less-via-else-is-less w ↦ let p = w.if-is_less.ensures in grind (arith, nat_tests)
     ])

@@ -22,4 +22,4 @@ returns-in-None c =
     let r = root_labels c.read.result c.unwrap-root.result c.read.ensures.labels c.unwrap-root.ensures in
     let o = least_other (held_by (shown c.args.notes.now)) (notes_rise (shown c.args.notes.now) (notes_names c.args.notes.now))
     (c.in-None.ensures ∙ ap (λ n. some (entry_of n (held_by (shown c.args.notes.now)))) r) in
-    c.least-after.ensures ∙ ap (λ n. some (entry_after n (held_by (shown c.args.notes.now)))) r ∙ ap some o
+    c.least_after.ensures ∙ ap (λ n. some (entry_after n (held_by (shown c.args.notes.now)))) r ∙ ap some o

@@ -13,18 +13,18 @@ loop-i-init c = mentions_end (labels c.args.name.now) c.args.notes.now (length c
 pub loop-i-preserved : goal.loop-i-preserved
 loop-i-preserved c =
     mentions_down (labels c.args.name.now) (labels c.name.result) c.args.notes.now (c.loop-i.i - 1) c.loop-i.i c.index-notes-i.result (omega arith) c.index-notes-i.is c.name.ensures.labels
-    (sym c.if-is-same.ensures) (omega arith) c.loop-i.invariant
+    (sym c.if-is_same.ensures) (omega arith) c.loop-i.invariant
 
-pub returns-then-is-put : goal.returns-then-is-put
-returns-then-is-put c =
-    let h = newest_here (labels c.args.name.now) (labels c.name.result) c.args.notes.now (c.loop-i.i - 1) c.loop-i.i c.index-notes-i.result (omega arith) c.index-notes-i.is c.name.ensures.labels (sym c.if-is-same.ensures) (omega arith) c.loop-i.invariant in
-    let p = c.if-is-put.ensures in
+pub returns-then-is_put : goal.returns-then-is_put
+returns-then-is_put c =
+    let h = newest_here (labels c.args.name.now) (labels c.name.result) c.args.notes.now (c.loop-i.i - 1) c.loop-i.i c.index-notes-i.result (omega arith) c.index-notes-i.is c.name.ensures.labels (sym c.if-is_same.ensures) (omega arith) c.loop-i.invariant in
+    let p = c.if-is_put.ensures in
     grind (arith, nat_tests)
 
-pub returns-else-is-put : goal.returns-else-is-put
-returns-else-is-put c =
-    let h = newest_here (labels c.args.name.now) (labels c.name.result) c.args.notes.now (c.loop-i.i - 1) c.loop-i.i c.index-notes-i.result (omega arith) c.index-notes-i.is c.name.ensures.labels (sym c.if-is-same.ensures) (omega arith) c.loop-i.invariant in
-    let p = c.if-is-put.ensures in
+pub returns-else-is_put : goal.returns-else-is_put
+returns-else-is_put c =
+    let h = newest_here (labels c.args.name.now) (labels c.name.result) c.args.notes.now (c.loop-i.i - 1) c.loop-i.i c.index-notes-i.result (omega arith) c.index-notes-i.is c.name.ensures.labels (sym c.if-is_same.ensures) (omega arith) c.loop-i.invariant in
+    let p = c.if-is_put.ensures in
     grind (arith, nat_tests)
 
 pub returns : goal.returns

@@ -1,4 +1,4 @@
-use Rattle.std.proofs.Common.{◌≡◌, sym, ◌∙◌, inr}
+use Rattle.std.proofs.Common.{◌∙◌, inr}
 use Rattle.script.proofs.NameSteps.{differs}
 use Rattle.script.proofs.LineSteps.{line_words, no_command}
 use Rattle.script.proofs.line.read_line.Goals as goal

@@ -1,6 +1,5 @@
-use Rattle.std.proofs.Common.{◌≡◌, sym, ◌∙◌, inr}
+use Rattle.std.proofs.Common.{◌∙◌, inr}
 use Rattle.std.proofs.lemmas.Result.{err_from_is_err_and}
-use Rattle.script.specs.Lines.{name_line, both}
 use Rattle.script.specs.NameText.{read_name}
 use Rattle.script.specs.SetText.{read_set}
 use Rattle.script.proofs.LineSteps.{name_words, words_many, words_two, name_fault, types_fault, both_read}

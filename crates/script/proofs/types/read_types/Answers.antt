@@ -1,7 +1,6 @@
-use Rattle.std.proofs.Common.{◌≡◌, [], ◌∷◌, ◌++◌, vec_items, sym, refl, ap, ◌∙◌, inr, arith, rules}
+use Rattle.std.proofs.Common.{vec_items, sym, refl, ◌∙◌, inr, arith, rules}
 use Rattle.std.proofs.lemmas.Str.Pattern.{split_parts}
 use Rattle.std.proofs.lemmas.Option.{MatchOption-at_some, MatchOption-at_none}
-use Rattle.script.specs.NameText.{before}
 use Rattle.script.proofs.NameSteps.{before_none, differs}
 use Rattle.script.proofs.TypeSteps.{piece_step, piece_fails, last_step, last_fails, not_dash, NoComma}
 use Rattle.script.proofs.types.read_types.Goals as goal

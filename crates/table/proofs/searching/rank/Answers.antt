@@ -20,6 +20,6 @@ loop-low-preserved-in-Less c =
 pub loop-low-preserved : goal.loop-low-preserved
 loop-low-preserved c =
     let p = probe (labels c.args.name.now) (labels c.name.result) c.args.entries.now c.index-entries-middle.result _ c.compare.result c.requires (search rules) c.index-entries-middle.is c.name.ensures.labels c.compare.ensures.value in
-    let e = not_less c.compare.result c.in-default.not-Less in
+    let e = not_less c.compare.result c.in_default.not-Less in
     let i = c.loop-low.invariant in
     grind (arith, nat_tests)

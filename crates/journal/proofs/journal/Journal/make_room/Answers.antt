@@ -22,6 +22,6 @@ returns c =
     let h : slots_of c.args.self.now ≤ length (shown (notes_of c.args.self.now)) = omega arith in
     let m : length (shown (notes_of c.args.self.now)) ≤ slots_of c.args.self.now = omega arith in
     let e : false ≡ eqb (length (compacted (shown (notes_of c.args.self.now)))) (length (shown (notes_of c.args.self.now))) =
-    c.if-all-live.ensures ∙ ap₂ (λ ns n. eqb (length (compacted (shown ns))) n) c.notes-2.ensures (ap length c.notes-2.ensures ∙ sym k) in
+    c.if-all_live.ensures ∙ ap₂ (λ ns n. eqb (length (compacted (shown ns))) n) c.notes-2.ensures (ap length c.notes-2.ensures ∙ sym k) in
     let p = room_made (slots_of c.args.self.now) (shown (notes_of c.args.self.now)) (shown (notes_of c.compact.new.self)) h m e c.compact.ensures.notes in
     record { answer = p.0; notes = p.1; slots = c.compact.ensures.slots }

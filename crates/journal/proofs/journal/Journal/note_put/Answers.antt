@@ -12,29 +12,29 @@ use Rattle.journal.specs.declared.note.Note.TheVariants.{Put}
 use Rattle.journal.proofs.Room.{read_some, sought, put_full, put_done, readied_room}
 use Rattle.journal.proofs.journal.Journal.note_put.Goals as goal
 
-pub returns-then-not-make-room : goal.returns-then-not-make-room
-returns-then-not-make-room c =
-    let a = sought c.args.name.now (words c.args.types.now) (entry_in c.in-ok-named.named) (labels c.name.result) c.notes.result.now (notes_of c.args.self.now) c.put-of.result c.in-ok-named.ensures.entry c.name.ensures.labels c.notes.ensures c.put-of.ensures in
-    let p = put_full (slots_of c.args.self.now) (shown (notes_of c.args.self.now)) c.args.name.now (words c.args.types.now) (notes_names (notes_of c.args.self.now)) a.name (a.held ∙ sym c.if-is-some.ensures) c.if-not-make-room.ensures.answer in
-    record { answer = p.0; notes = c.if-not-make-room.ensures.notes ∙ p.1; slots = c.if-not-make-room.ensures.slots }
+pub returns-then-not-make_room : goal.returns-then-not-make_room
+returns-then-not-make_room c =
+    let a = sought c.args.name.now (words c.args.types.now) (entry_in c.in_ok-named.named) (labels c.name.result) c.notes.result.now (notes_of c.args.self.now) c.put_of.result c.in_ok-named.ensures.entry c.name.ensures.labels c.notes.ensures c.put_of.ensures in
+    let p = put_full (slots_of c.args.self.now) (shown (notes_of c.args.self.now)) c.args.name.now (words c.args.types.now) (notes_names (notes_of c.args.self.now)) a.name (a.held ∙ sym c.if-is_some.ensures) c.if-not-make_room.ensures.answer in
+    record { answer = p.0; notes = c.if-not-make_room.ensures.notes ∙ p.1; slots = c.if-not-make_room.ensures.slots }
 
 pub add-requires : goal.add-requires
 add-requires c =
-    let r = readied_room (slots_of c.args.self.now) (shown (notes_of c.args.self.now)) c.if-not-make-room.ensures.answer in
-    let l = ap length c.if-not-make-room.ensures.notes in
-    let k = length-map (notes_of c.make-room.new.self) note_contents in
-    let s = c.if-not-make-room.ensures.slots in
+    let r = readied_room (slots_of c.args.self.now) (shown (notes_of c.args.self.now)) c.if-not-make_room.ensures.answer in
+    let l = ap length c.if-not-make_room.ensures.notes in
+    let k = length-map (notes_of c.make_room.new.self) note_contents in
+    let s = c.if-not-make_room.ensures.slots in
     omega arith
 
 pub returns : goal.returns
 returns c =
-    let a = sought c.args.name.now (words c.args.types.now) (entry_in c.in-ok-named.named) (labels c.name.result) c.notes.result.now (notes_of c.args.self.now) c.put-of.result c.in-ok-named.ensures.entry c.name.ensures.labels c.notes.ensures c.put-of.ensures in
-    let q = read_some (is_name c.args.name.now) (contents c.in-ok-named.named) (stored c.args.name.now (words c.args.types.now)) c.in-ok-named.ensures.contents in
-    let p = put_done (slots_of c.args.self.now) (shown (notes_of c.args.self.now)) c.args.name.now (words c.args.types.now) (notes_names (notes_of c.args.self.now)) a.name (a.held ∙ sym c.if-is-some.ensures) c.if-not-make-room.ensures.answer in
+    let a = sought c.args.name.now (words c.args.types.now) (entry_in c.in_ok-named.named) (labels c.name.result) c.notes.result.now (notes_of c.args.self.now) c.put_of.result c.in_ok-named.ensures.entry c.name.ensures.labels c.notes.ensures c.put_of.ensures in
+    let q = read_some (is_name c.args.name.now) (contents c.in_ok-named.named) (stored c.args.name.now (words c.args.types.now)) c.in_ok-named.ensures.contents in
+    let p = put_done (slots_of c.args.self.now) (shown (notes_of c.args.self.now)) c.args.name.now (words c.args.types.now) (notes_names (notes_of c.args.self.now)) a.name (a.held ∙ sym c.if-is_some.ensures) c.if-not-make_room.ensures.answer in
     record {
       answer = p.0;
       notes =
-          ap shown c.add.ensures.notes ∙ map_push note_contents (notes_of c.make-room.new.self) (Put c.in-ok-named.named)
-          ∙ ap₂ (λ xs s. xs ++ (puts s ∷ [])) c.if-not-make-room.ensures.notes q.1 ∙ p.1;
-      slots = c.add.ensures.slots ∙ c.if-not-make-room.ensures.slots;
+          ap shown c.add.ensures.notes ∙ map_push note_contents (notes_of c.make_room.new.self) (Put c.in_ok-named.named)
+          ∙ ap₂ (λ xs s. xs ++ (puts s ∷ [])) c.if-not-make_room.ensures.notes q.1 ∙ p.1;
+      slots = c.add.ensures.slots ∙ c.if-not-make_room.ensures.slots;
     }

@@ -3,8 +3,8 @@ use Rattle.shelf.specs.Entries.{live}
 use Rattle.journal.proofs.Moves.{take_out}
 use Rattle.journal.proofs.journal.Journal.remove.Goals as goal
 
-pub invariant-of-self : goal.invariant-of-self
-invariant-of-self c =
+pub invariant_of-self : goal.invariant_of-self
+invariant_of-self c =
     let p = (take_out _ _ c.args.i c.args.self.now.fits c.requires).fits in
     let n = c.take.ensures.count in
     let s = ap length c.take.ensures.slots in

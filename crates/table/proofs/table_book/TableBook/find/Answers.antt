@@ -8,5 +8,5 @@ use Rattle.table.proofs.table_book.TableBook.find.Goals as goal
 
 pub returns : goal.returns
 returns c =
-    let f = found_at (labels c.in-ok-name.name) (held_by c.args.self.now) c.position.result c.ok.result c.args.self.now.sorted c.position.ensures c.ok.ensures.value in
-    ap Ok f ∙ of_read c.args.name.now _ (λ n. Ok (some (entry_of n (held_by c.args.self.now)))) c.in-ok-name.ensures.octets
+    let f = found_at (labels c.in_ok-name.name) (held_by c.args.self.now) c.position.result c.ok.result c.args.self.now.sorted c.position.ensures c.ok.ensures.value in
+    ap Ok f ∙ of_read c.args.name.now _ (λ n. Ok (some (entry_of n (held_by c.args.self.now)))) c.in_ok-name.ensures.octets

@@ -9,8 +9,8 @@ use Rattle.journal.proofs.journal.answering.JournalBook.put.Goals as goal
 
 pub returns : goal.returns
 returns c = record {
-  answer = c.note-put.ensures.answer;
-  held = ap held_by c.note-put.ensures.notes ∙ held_after_put (slots_of c.args.self.now) (shown (notes_of c.args.self.now)) c.args.name.now (words c.args.types.now) (notes_names (notes_of c.args.self.now));
-  capacity = c.note-put.ensures.slots;
+  answer = c.note_put.ensures.answer;
+  held = ap held_by c.note_put.ensures.notes ∙ held_after_put (slots_of c.args.self.now) (shown (notes_of c.args.self.now)) c.args.name.now (words c.args.types.now) (notes_names (notes_of c.args.self.now));
+  capacity = c.note_put.ensures.slots;
   cost = λ n. refl;
 }

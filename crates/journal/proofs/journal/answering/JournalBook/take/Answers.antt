@@ -8,8 +8,8 @@ use Rattle.journal.proofs.journal.answering.JournalBook.take.Goals as goal
 
 pub returns : goal.returns
 returns c = record {
-  answer = c.note-take.ensures.answer;
-  held = ap held_by c.note-take.ensures.notes ∙ held_after_take (slots_of c.args.self.now) (shown (notes_of c.args.self.now)) c.args.name.now (notes_names (notes_of c.args.self.now));
-  capacity = c.note-take.ensures.slots;
+  answer = c.note_take.ensures.answer;
+  held = ap held_by c.note_take.ensures.notes ∙ held_after_take (slots_of c.args.self.now) (shown (notes_of c.args.self.now)) c.args.name.now (notes_names (notes_of c.args.self.now));
+  capacity = c.note_take.ensures.slots;
   cost = λ n. refl;
 }

@@ -7,18 +7,18 @@ use Rattle.journal.proofs.Moves.{live_within}
 use Rattle.journal.proofs.Places.{entry_live}
 use Rattle.journal.proofs.journal.answering.JournalBook.types.Goals as goal
 
-within : (c : goal.Then-is-live) → c.args.slot < length c.notes-notes.result.now
-within c = live_within c.notes-notes.result.now c.args.slot (sym c.if-is-live.ensures)
+within : (c : goal.Then-is_live) → c.args.slot < length c.notes-notes.result.now
+within c = live_within c.notes-notes.result.now c.args.slot (sym c.if-is_live.ensures)
 
 pub bounds-notes-slot : goal.bounds-notes-slot
 bounds-notes-slot c = within c
 
-pub offset-bounds-notes-slot : goal.offset-bounds-notes-slot
-offset-bounds-notes-slot c = let h = within c in search rules
+pub offset_bounds-notes-slot : goal.offset_bounds-notes-slot
+offset_bounds-notes-slot c = let h = within c in search rules
 
-pub returns-then-is-live : goal.returns-then-is-live
-returns-then-is-live c =
-    let l = sym c.if-is-live.ensures in
+pub returns-then-is_live : goal.returns-then-is_live
+returns-then-is_live c =
+    let l = sym c.if-is_live.ensures in
     let q : entry_at (shown (notes_of c.args.self.now)) c.args.slot ≡ Some (entry_noted (note_contents c.index-notes-slot.result)) =
     ap (λ ns. entry_at (shown ns) c.args.slot) (sym c.notes-notes.ensures) ∙ entry_live c.notes-notes.result.now c.args.slot c.index-notes-slot.result (live_within c.notes-notes.result.now c.args.slot l) c.index-notes-slot.is l in
     ap Some c.types.ensures ∙ ap (option_map (λ e. e.1)) (sym q)
