@@ -1,13 +1,13 @@
 -- The steps of a listing.
-use Rattle.std.proofs.Common.{◌≡◌, ℕ, suc, ◌+◌, ◌-◌, ◌<◌, ◌≤◌, Bool, true, false, cond, ◌&&◌, ◌⊎◌, List, [], ◌∷◌, ◌++◌, map, length, take, drop, Some, None, Option, sym, refl, ap, ◌∙◌, ap₂, inl, inr, ⊎_elim, arith}
+use Rattle.std.proofs.Common.{◌≡◌, ℕ, ◌-◌, ◌<◌, ◌≤◌, true, cond, ◌⊎◌, [], ◌∷◌, ◌++◌, length, take, drop, Some, None, Option, sym, refl, ap, ◌∙◌, ap₂, inl, inr, arith}
 use native.Mathlib.Nat.{sub-zero}
-use Rattle.std.proofs.lemmas.List.{length-append, length-drop, take_at, append_assoc, append-nil, map_push}
+use Rattle.std.proofs.lemmas.List.{length-append, length-drop, take_at, append_assoc}
 use Rattle.std.specs.Option.{option_map}
 use Rattle.names.proofs.Ordered.{same_name_refl}
 use Rattle.names.proofs.Reader.{some_same}
 use Rattle.names.proofs.Undo.{name_wire, labels_wire, labels_parts}
 use Rattle.names.specs.Types.{Words}
-use Rattle.names.specs.Wire.{Octets, Labels, is_name, is_labels, labels_of, wire, written}
+use Rattle.names.specs.Wire.{Octets, is_name, is_labels, labels_of, wire, written}
 use Rattle.books.proofs.Rising.{part_name, after_entry, from_entry}
 use Rattle.books.specs.Answers.{some, name_written}
 use Rattle.books.specs.Held.{Entry, Held, rises, entry_after, first_entry, from_name}

@@ -1,5 +1,5 @@
 -- The rows of a listing.
-use Rattle.std.specs.Prelude.{ℕ, List, [], ◌∷◌, map, Some, None, vec_items, Option}
+use Rattle.std.specs.Prelude.{List, [], map, Some, None, vec_items, Option}
 use Rattle.names.specs.TypeView.{words}
 use Rattle.names.specs.Types.{Words}
 use Rattle.names.specs.Wire.{Octets, labels_of, wire}

@@ -1,9 +1,9 @@
 -- What is answered to a question: a status, a label count, and the records that show it.
-use Rattle.std.specs.Prelude.{ℕ, ◌+◌, ◌-◌, Bool, true, false, cond, not, ◌&&◌, ◌||◌, List, [], ◌∷◌, ◌++◌, map, reverse, length, drop, is_some, Some, None, Ok, Err, Option, Result, ◌==◌, nat_lt}
+use Rattle.std.specs.Prelude.{ℕ, ◌+◌, ◌-◌, Bool, false, cond, not, ◌&&◌, ◌||◌, List, [], ◌∷◌, ◌++◌, map, reverse, length, drop, is_some, Some, None, Ok, Err, Option, Result, ◌==◌, nat_lt}
 use Rattle.std.specs.List.{slice_get}
 use Rattle.names.specs.Canonical.{same_name, below, at_or_below}
 use Rattle.names.specs.Refusals.{of_name}
-use Rattle.names.specs.Types.{Words, asked}
+use Rattle.names.specs.Types.{asked}
 use Rattle.names.specs.Wire.{Octets, Labels, star_name}
 use Rattle.names.specs.declared.refusal.Refusal.{Refusal}
 use Rattle.names.specs.declared.refusal.Refusal.TheVariants.{OutsideZone, NotAskedType, NotSealed, DsAtApex, PlaceTaken, ListTooShort}

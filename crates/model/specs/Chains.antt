@@ -1,12 +1,12 @@
 -- The chain of a zone: one record for each recorded name, in canonical order of the names. Everything here takes an order
 -- by what it means.
-use Rattle.std.specs.Prelude.{ℕ, ◌+◌, Bool, true, false, cond, not, ◌&&◌, ◌||◌, List, [], ◌∷◌, ◌++◌, map, Some, None, Option, ◌==◌}
+use Rattle.std.specs.Prelude.{ℕ, ◌+◌, Bool, cond, not, ◌&&◌, List, [], ◌∷◌, ◌++◌, map, Some, None, Option, ◌==◌}
 use Rattle.std.specs.declared.cmp.Ordering.{Ordering}
 use Rattle.std.specs.Ordering.{is_lt}
 use Rattle.names.specs.Canonical.{same_name, at_or_below}
-use Rattle.names.specs.Types.{Words, has, with, no_types}
+use Rattle.names.specs.Types.{Words, with}
 use Rattle.names.specs.Wire.{Octets, Labels, same_octets}
-use Rattle.books.specs.Held.{Entry, Held, less}
+use Rattle.books.specs.Held.{Held, less}
 use Rattle.model.specs.Zones.{is_held, types_at, is_unsigned_cut}
 
 -- what an order means: a place for each name, which strings are places, how two compare, whether the order keeps

@@ -1,5 +1,5 @@
 -- What the zone's editor answers, and what is held then.
-use Rattle.std.specs.Prelude.{ℕ, ◌+◌, Bool, true, false, cond, not, ◌&&◌, ◌||◌, List, [], ◌∷◌, length, is_ok, Some, None, Ok, Err, Option, Result, nat_le, nat_lt}
+use Rattle.std.specs.Prelude.{ℕ, ◌+◌, cond, not, length, is_ok, Some, None, Ok, Err, Option, Result, nat_le, nat_lt}
 use Rattle.names.specs.Canonical.{same_name, at_or_below}
 use Rattle.names.specs.Refusals.{of_name}
 use Rattle.names.specs.Types.{Words, rule_broken}
@@ -8,7 +8,7 @@ use Rattle.names.specs.declared.refusal.Refusal.{Refusal}
 use Rattle.names.specs.declared.refusal.Refusal.TheVariants.{OutsideZone, TypesNotAllowed, NotHeld, IsApex, CrossesCut, BookFull, SharedPlace, TooFewSlots, SettingNotAllowed}
 use Rattle.names.specs.declared.refusal.Refusal.TheVariants as refusal
 use Rattle.books.specs.Held.{Held, with_entry, without_name, spent}
-use Rattle.model.specs.Chains.{Meaning, Record, recorded, chain_of, clash}
+use Rattle.model.specs.Chains.{Meaning, recorded, clash}
 use Rattle.model.specs.Judges.{flag_allowed}
 use Rattle.model.specs.Zones.{is_held, crosses_cut}
 

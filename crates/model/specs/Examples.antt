@@ -1,5 +1,5 @@
 -- Small zones, and what is answered there.
-use Rattle.std.specs.Prelude.{◌≡◌, ℕ, Bool, true, false, cond, List, [], ◌∷◌, length, Some, None, Ok, Err, codes, Option, Result, ◌==◌}
+use Rattle.std.specs.Prelude.{◌≡◌, ℕ, true, false, cond, List, [], ◌∷◌, length, Some, None, Ok, Err, codes, Option, Result, ◌==◌}
 use Rattle.std.specs.List.{slice_get}
 use Rattle.names.specs.Canonical.{by_octets}
 use Rattle.names.specs.Types.{Words, with, no_types}
@@ -9,7 +9,7 @@ use Rattle.names.specs.declared.refusal.Refusal.TheVariants.{CrossesCut, DsAtApe
 use Rattle.books.specs.Held.{Held, one_each}
 use Rattle.digests.specs.Sums.{byte_sum}
 use Rattle.orders.specs.Places.{is_lower_name, by_names, below_names, iterated}
-use Rattle.model.specs.Asks.{Answer, Status, status_number, ask_answer}
+use Rattle.model.specs.Asks.{Answer, status_number, ask_answer}
 use Rattle.model.specs.Chains.{Meaning, Record, chain_of}
 use Rattle.model.specs.Edits.{add_answer, seal_answer}
 use Rattle.model.specs.Judges.{Pass, pass_number, judge_answer}

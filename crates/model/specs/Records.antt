@@ -1,5 +1,5 @@
 -- What a record says of a name.
-use Rattle.std.specs.Prelude.{Bool, true, false, cond, not, ◌&&◌, ◌||◌, Some, None, Option}
+use Rattle.std.specs.Prelude.{Bool, cond, not, ◌&&◌, ◌||◌, Some, None, Option}
 use Rattle.names.specs.Types.{Words, has, no_types}
 use Rattle.names.specs.Wire.{Octets, Labels, same_octets}
 use Rattle.model.specs.Chains.{Meaning, Record, lesser}

@@ -1,5 +1,5 @@
 -- A zone: an apex, and the names that it holds with their types, one list, rising in canonical order.
-use Rattle.std.specs.Prelude.{ℕ, Bool, true, false, cond, not, ◌&&◌, ◌||◌, List, [], ◌∷◌, is_some, Some, None, Option}
+use Rattle.std.specs.Prelude.{ℕ, Bool, true, false, cond, not, ◌&&◌, ◌||◌, [], ◌∷◌, is_some, Some, None, Option}
 use Rattle.names.specs.Canonical.{same_name, below, at_or_below}
 use Rattle.names.specs.Types.{Words, has, no_types, rule_broken, unsigned_cut}
 use Rattle.names.specs.Wire.{Labels}

@@ -1,5 +1,5 @@
 -- Names from the root on: an order that keeps families.
-use Rattle.std.specs.Prelude.{◌≡◌, ℕ, ◌+◌, ◌-◌, ◌<◌, ◌≤◌, Bool, true, false, [], ◌∷◌, ◌++◌, map, reverse, length, take, drop, Some, None, Decides, ◌==◌, nat_le, refl}
+use Rattle.std.specs.Prelude.{◌≡◌, ℕ, ◌+◌, ◌-◌, ◌<◌, ◌≤◌, Bool, true, false, [], ◌∷◌, ◌++◌, map, reverse, length, take, drop, Some, None, ◌==◌, eqb, nat_le, refl}
 use Rattle.std.specs.declared.cmp.Ordering.TheVariants.{Less}
 use Rattle.std.proofs.Common.{sym, ap, ap₂, ◌∙◌, ⊎_elim, add-one, arith}
 use mathlib.Core.List.{reverse-cons}
@@ -8,7 +8,7 @@ use Rattle.std.proofs.lemmas.Slice.Eq.{starts_is}
 use Rattle.std.proofs.lemmas.List.{append-nil, append_assoc, reverse-append, reverse-reverse, length-append, length-drop, length-map, length-take-le, drop-drop, take_at, drop_at}
 use Rattle.std.proofs.lemmas.Bool.{false≢true, cases_Bool, le-leb}
 use Rattle.std.proofs.lemmas.Bool.Decides.{nat_tests, Decides-eqb}
-use Rattle.std.specs.Cmp.Lexicographic.{Matches}
+use Rattle.std.specs.Cmp.Lexicographic.{pointwise}
 use Rattle.std.specs.Char.{to_ascii_lowercase as ascii_lower}
 use Rattle.names.proofs.Ordered.{prefix_between, below_split, below_join}
 use Rattle.names.proofs.Reader.{first_parts, name_first, labels_first, labels_none}
@@ -102,7 +102,7 @@ less_on [] (x ∷ xs) h = refl
 less_on (y ∷ ys) f h = let ih = less_on ys f h in grind (arith, nat_tests)
 
 -- what a test of the front says
-pub goes_on_found : (a b : Octets) (r : Bool) → length b < length a → Matches (λ (x y : ℕ) (t : Bool). Decides t (x ≡ y)) b (take (length b) a) r → r ≡ goes_on a b
+pub goes_on_found : (a b : Octets) (r : Bool) → length b < length a → r ≡ pointwise eqb b (take (length b) a) → r ≡ goes_on a b
 goes_on_found a b r h m =
     let s = starts_is Decides-eqb a b r m in
     ⊎_elim

@@ -1,15 +1,13 @@
 -- Strings compared octet by octet.
-use Rattle.std.specs.Prelude.{◌≡◌, ℕ, ◌<◌, ◌≤◌, Bool, true, cond, [], ◌∷◌, length, Some, None, nat_eq, refl}
-use Rattle.std.specs.declared.cmp.Ordering.TheVariants.{Less, Equal, Greater}
-use Rattle.std.specs.declared.cmp.Ordering.{Ordering}
+use Rattle.std.specs.Prelude.{◌≡◌, ℕ, ◌<◌, ◌≤◌, cond, length, Some, None, nat_eq, refl}
+use Rattle.std.specs.declared.cmp.Ordering.TheVariants.{Equal}
 use Rattle.std.proofs.Common.{sym, ap, ◌∙◌, arith}
 use Rattle.std.proofs.lemmas.List.{nil_from_length}
-use Rattle.std.proofs.lemmas.Bool.{cases_Bool, eqb-true}
-use Rattle.std.proofs.lemmas.Bool.Decides.{nat_tests}
+use Rattle.std.proofs.lemmas.Bool.{eqb-true}
 use Rattle.names.proofs.Ordered.{octets_total}
 use Rattle.names.proofs.Reader.{was_read}
 use Rattle.names.proofs.Undo.{name_short}
-use Rattle.names.specs.Canonical.{by_number, or_else, by_octets}
+use Rattle.names.specs.Canonical.{by_octets}
 use Rattle.names.specs.Laws.{StrictTotal}
 use Rattle.names.specs.Wire.{Octets, is_name}
 use Rattle.orders.specs.Ring.{Ring}

@@ -1,7 +1,7 @@
 -- Where a name stands, or would stand, in a list that rises.
-use Rattle.std.specs.Prelude.{ℕ, suc, Bool, true, false, cond, List, [], ◌∷◌, map, is_some, Ok, Err, Result}
+use Rattle.std.specs.Prelude.{ℕ, suc, cond, List, [], ◌∷◌, map, is_some, Ok, Err, Result}
 use Rattle.names.specs.Wire.{Labels}
-use Rattle.books.specs.Held.{Entry, Held, less, entry_of}
+use Rattle.books.specs.Held.{Held, less, entry_of}
 use Rattle.books.specs.Stored.{entry_in}
 use Rattle.books.specs.declared.named.Named.{Named}
 

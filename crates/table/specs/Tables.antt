@@ -1,7 +1,7 @@
 -- What a table holds.
-use Rattle.std.specs.Prelude.{ℕ, Bool, true, false, cond, List, [], ◌∷◌, map, length, is_ok, Option}
+use Rattle.std.specs.Prelude.{ℕ, cond, List, map, length, is_ok, Option}
 use Rattle.std.specs.List.{slice_get, insert, remove}
-use Rattle.names.specs.Wire.{Octets, Labels, labels_of}
+use Rattle.names.specs.Wire.{Octets, labels_of}
 use Rattle.names.specs.Types.{Words}
 use Rattle.shelf.specs.Entries.{live}
 use Rattle.books.specs.Answers.{of_name, put_name, take_name}

@@ -92,7 +92,7 @@ fn run(rt: &HostRuntime) -> anyhow::Result<()> {
             Ok(Line::Name(octets, types)) => answer_name(heap, &mut kept, octets, types)?,
             Ok(Line::List) => answer_list(heap, &kept)?,
             Ok(Line::Nothing) => continue,
-            Err(fault) => return Err(fault_words(fault).into()),
+            Err(fault) => return Err(anyhow!(fault_words(fault))),
         };
         let record = record_line(heap, line, &answer)?;
         println!(rt; "{record}")?;

@@ -1,4 +1,4 @@
-use Rattle.std.proofs.Common.{◌≡◌, ◌≤◌, vec_items, refl, arith}
+use Rattle.std.proofs.Common.{◌≤◌, vec_items, refl, arith}
 use Rattle.names.specs.TypeView.{words}
 use Rattle.listing.proofs.Walk.{row_short, row_shown}
 use Rattle.listing.proofs.row_at.Goals as goal

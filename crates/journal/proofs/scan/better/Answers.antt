@@ -7,7 +7,7 @@ use Rattle.journal.specs.Notes.{held_by, entry_at}
 use Rattle.journal.specs.View.{shown}
 use Rattle.journal.proofs.Places.{after_here, some_is}
 use Rattle.journal.proofs.scan.better.Goals as goal
-use Rattle.journal.proofs.scan.better.Goals.{else-is-less-via-then-is-less+then-is-before+else-is-live, else-is-less-via-then-is-less+else-is-before, else-is-less-via-else-is-less}
+use Rattle.journal.proofs.scan.better.Goals.{else-is_less-via-then-is_less+then-is_before+else-is_live, else-is_less-via-then-is_less+else-is_before, else-is_less-via-else-is_less}
 
 pub returns-then-is_live : goal.returns-then-is_live
 returns-then-is_live c =
@@ -22,7 +22,7 @@ pub returns-else-is_less : goal.returns-else-is_less
 returns-else-is_less c =
     let h = after_here (labels c.args.after.now) (labels c.name-name.result) c.args.notes.now c.args.i c.index-notes-i.result c.requires.0 c.index-notes-i.is c.name-name.ensures.labels in
     c.requires.1 ∙ ap some (elim c.else-is_less.branch [
-      | else-is-less-via-then-is-less+then-is-before+else-is-live w ↦ let l = w.if-is_live.ensures in grind (arith, nat_tests)
-      | else-is-less-via-then-is-less+else-is-before w ↦ let b = w.if-is_before.ensures (entry_after (labels c.args.after.now) (held_by (drop (c.args.i + 1) (shown c.args.notes.now)))) c.requires.1 in grind (arith, nat_tests)
-      | else-is-less-via-else-is-less w ↦ let p = w.if-is_less.ensures in grind (arith, nat_tests)
+      | else-is_less-via-then-is_less+then-is_before+else-is_live w ↦ let l = w.if-is_live.ensures in grind (arith, nat_tests)
+      | else-is_less-via-then-is_less+else-is_before w ↦ let b = w.if-is_before.ensures (entry_after (labels c.args.after.now) (held_by (drop (c.args.i + 1) (shown c.args.notes.now)))) c.requires.1 in grind (arith, nat_tests)
+      | else-is_less-via-else-is_less w ↦ let p = w.if-is_less.ensures in grind (arith, nat_tests)
     ])

@@ -1,5 +1,4 @@
 use Rattle.std.proofs.Common.{ap, ◌∙◌}
-use Rattle.names.specs.View.{labels}
 use Rattle.books.specs.Answers.{some}
 use Rattle.books.specs.Held.{entry_of, entry_after}
 use Rattle.journal.specs.Notes.{held_by, entry_at}

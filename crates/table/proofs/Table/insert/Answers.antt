@@ -6,7 +6,7 @@ use Rattle.table.proofs.Table.insert.Goals as goal
 pub invariant_of-self : goal.invariant_of-self
 invariant_of-self c =
     let a = put_all_of _ _ _ _ _ _ _ _ _ _ c.args.self.now.fits c.args.self.now.sorted c.in_ok-entry.ensures.contents c.in_ok-entry.ensures.entry c.name.ensures.labels c.in-Err.ensures c.put.ensures.answer c.put.ensures.slots c.put.ensures.count in
-    (a.grown.fits, (a.grown.sorted, tt))
+    record { fits = a.grown.fits; sorted = a.grown.sorted }
 
 pub returns-then-put : goal.returns-then-put
 returns-then-put c =

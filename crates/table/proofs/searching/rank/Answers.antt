@@ -1,9 +1,9 @@
-use Rattle.std.proofs.Common.{◌≤◌, arith, rules}
+use Rattle.std.proofs.Common.{arith, rules}
 use Rattle.std.proofs.lemmas.Bool.Decides.{nat_tests}
 use Rattle.std.proofs.lemmas.List.{length-map}
 use Rattle.books.specs.Stored.{entry_in}
 use Rattle.names.specs.View.{labels}
-use Rattle.table.specs.Ranks.{entries_in, rank}
+use Rattle.table.specs.Ranks.{entries_in}
 use Rattle.table.proofs.Ranking.{rank_most, probe, not_less}
 use Rattle.table.proofs.searching.rank.Goals as goal
 

@@ -6,5 +6,5 @@ use Rattle.books_tests.proofs.by_length.ByLengthBook.put.Goals as goal
 
 pub returns : goal.returns
 returns c =
-    let p = table_puts (slot_count c.args.self.now.table.now) (held_by c.args.self.now.table.now) (held_by c.insert.new.self) c.args.name.now (words c.args.types.now) c.insert.result c.in-ok-admit.ensures c.insert.ensures.answer c.insert.ensures.held in
+    let p = table_puts (slot_count c.args.self.now.table.now) (held_by c.args.self.now.table.now) (held_by c.insert.new.self) c.args.name.now (words c.args.types.now) c.insert.result c.in_ok-admit.ensures c.insert.ensures.answer c.insert.ensures.held in
     record { answer = p.answer; held = p.held; capacity = c.insert.ensures.slots; cost = λ n. refl }

@@ -6,5 +6,5 @@ use Rattle.books_tests.proofs.only_root.OnlyRootBook.next.Goals as goal
 
 pub returns : goal.returns
 returns c =
-    let r = as_read c.args.name.now _ c.in-ok-read.ensures.octets in
+    let r = as_read c.args.name.now _ c.in_ok-read.ensures.octets in
     rw (r.name, none_after (labels_of c.args.name.now) c.args.self.now.types) refl

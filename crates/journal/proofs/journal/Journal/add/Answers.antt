@@ -8,7 +8,7 @@ invariant_of-self c =
     let p = (put_last _ _ (length c.notes-n.result.now) c.args.note c.args.self.now.fits (ap length c.notes-n.ensures) c.requires).fits in
     let n = c.put.ensures.count in
     let s = ap length c.put.ensures.slots in
-    (omega arith, tt)
+    record { fits = omega arith }
 
 pub returns : goal.returns
 returns c =

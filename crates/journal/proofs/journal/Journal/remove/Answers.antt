@@ -8,7 +8,7 @@ invariant_of-self c =
     let p = (take_out _ _ c.args.i c.args.self.now.fits c.requires).fits in
     let n = c.take.ensures.count in
     let s = ap length c.take.ensures.slots in
-    (omega arith, tt)
+    record { fits = omega arith }
 
 pub returns : goal.returns
 returns c =
