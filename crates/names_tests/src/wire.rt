@@ -87,15 +87,18 @@ fn names_and_none(rt: HostRuntime) -> Result<(), Fail> {
 fn ancestors(rt: HostRuntime) -> Result<(), Fail> {
     let name = Name::read(b"\x01a\x02Bb\x00")?;
     let up = name.parent().ok_or("no parent")?;
-    assert_eq!(rt; up.octets(), b"\x02Bb\x00");
+    assert_eq!(rt; up.octets(), b"\x02Bb\x00".as_slice());
     let top = up.parent().ok_or("no root")?;
-    assert_eq!(rt; top.octets(), b"\x00");
+    assert_eq!(rt; top.octets(), b"\x00".as_slice());
     assert!(rt; top.parent().is_none());
     assert_eq!(rt;
         name.ancestor(2).ok_or("not itself")?.octets(),
         name.octets()
     );
-    assert_eq!(rt; name.ancestor(0).ok_or("no root")?.octets(), b"\x00");
+    assert_eq!(rt;
+        name.ancestor(0).ok_or("no root")?.octets(),
+        b"\x00".as_slice()
+    );
     assert!(rt; name.ancestor(3).is_none());
     assert!(rt;
         name.is_below(&up) && name.is_below(&top) && !name.is_below(&name) && !up.is_below(&name)
@@ -115,10 +118,10 @@ fn written_names(rt: HostRuntime) -> Result<(), Fail> {
     let mut out = [7u8; 255];
     let name = Name::read(b"\x02aZ\x01[\x00")?;
     assert_eq!(rt; name.write_lower(&mut out), 6);
-    assert_eq!(rt; &out[0..8], b"\x02az\x01[\x00\x07\x07");
+    assert_eq!(rt; &out[0..8], b"\x02az\x01[\x00\x07\x07".as_slice());
     let mut out = [7u8; 255];
     assert_eq!(rt; name.write_star(&mut out), Some(8));
-    assert_eq!(rt; &out[0..10], b"\x01*\x02az\x01[\x00\x07\x07");
+    assert_eq!(rt; &out[0..10], b"\x01*\x02az\x01[\x00\x07\x07".as_slice());
     assert!(rt; !name.has_star_label());
     assert!(rt; Name::read(b"\x01b\x01*\x01c\x00")?.has_star_label());
     assert!(rt; !Name::read(b"\x02**\x00")?.has_star_label());

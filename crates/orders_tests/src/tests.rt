@@ -195,7 +195,7 @@ const LONG: [u8; 32] = [7; 32];
 #[test]
 fn settings(rt: HostRuntime) -> Result<(), Fail> {
     let order = Salted::new(Sha1, &LONG, 150)?;
-    assert_eq!(rt; order.salt(), &LONG);
+    assert_eq!(rt; order.salt(), LONG.as_slice());
     assert_eq!(rt; order.iterations(), 150);
     let over = Salted::new(Sha1, &[7; 33], 150);
     assert!(rt; matches!(over, Err(Refusal::SettingNotAllowed)));

@@ -98,13 +98,13 @@ mod tests {
         assert_eq!(rt; shelf.capacity(), 3);
         assert!(rt; shelf.entries().is_empty() && !shelf.put(1, 5) && shelf.take(0).is_none());
         assert!(rt; shelf.put(0, 5) && shelf.put(0, 4) && shelf.put(2, 6));
-        assert_eq!(rt; shelf.entries(), &[4, 5, 6]);
+        assert_eq!(rt; shelf.entries(), [4, 5, 6].as_slice());
         assert!(rt; !shelf.put(0, 7));
         assert_eq!(rt; shelf.take(1), Some(5));
-        assert_eq!(rt; shelf.entries(), &[4, 6]);
+        assert_eq!(rt; shelf.entries(), [4, 6].as_slice());
         assert_eq!(rt; shelf.take(2), None);
         assert!(rt; shelf.put(1, 8));
-        assert_eq!(rt; shelf.entries(), &[4, 8, 6]);
+        assert_eq!(rt; shelf.entries(), [4, 8, 6].as_slice());
     }
 
     #[test]

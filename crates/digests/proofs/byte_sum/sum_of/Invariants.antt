@@ -1,4 +1,4 @@
-use Rattle.std.proofs.Common.{◌≡◌, ℕ, ◌%◌, take, sum}
+use Rattle.std.proofs.Common.{◌≡◌, ◌%◌, take, sum}
 use Rattle.digests.proofs.byte_sum.sum_of.Given as goal
 
 abbrev pub invariant-loop-b : goal.invariant-loop-b

@@ -1,4 +1,4 @@
-use Rattle.std.proofs.Common.{◌≡◌, ◌/◌, length, arith}
+use Rattle.std.proofs.Common.{arith}
 use Rattle.digests.proofs.Joins.{after_more, run_all}
 use Rattle.digests.proofs.sha1.blocks.absorb.Goals as goal
 
