@@ -1,7 +1,7 @@
 #!/usr/bin/env python3
 """Spells the repository's own definitions, lemmas and import aliases in snake case: a capital inside a word and a dash become an underscore.
 
-usage: python3 tools/respell.py [--list]      at the top of the repository, once, right after /opt/rattle/port/port.py
+usage: python3 tools/respell.py [--list]      at the top of the repository, once, right after the port.py of the Rattle kit
 
 Types and modules keep their capitals. Functions of src/, exported C names, strings, inputs and outputs keep their names; labels of goals, which
 Rattle makes, keep theirs in Answers and Invariants. OTHER names the new spelling where plain underscores would meet another name.
