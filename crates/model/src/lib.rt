@@ -4,7 +4,7 @@
 ghost use Rattle.std.specs.Prelude.{◌≡◌, true};
 ghost use Rattle.model.specs.Examples.{Examples};
 
-// The definitions give what is expected of three small zones.
+// The definitions give what is expected of four small zones.
 pub fn examples_hold() -> bool
     ensures answer { result ≡ true }
     ensures examples { Examples }
