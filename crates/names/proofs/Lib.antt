@@ -5,3 +5,4 @@ pub mod Undo
 pub mod Writes
 pub mod Octet
 pub mod TypeLaws
+pub mod Slices

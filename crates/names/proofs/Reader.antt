@@ -1,20 +1,12 @@
 -- The reader: what a wire form is, label by label.
 use Rattle.std.proofs.Common.{◌≡◌, ℕ, zero, suc, ◌+◌, ◌<◌, ◌≤◌, true, false, cond, ◌&&◌, eqb, leb, [], ◌∷◌, ◌++◌, map, length, get_or, take, drop, Some, None, sym, refl, ap, ◌∙◌, add-one, arith}
 use Rattle.std.proofs.lemmas.List.{length-append, length-map, length-take-le, take-append-drop}
-use Rattle.std.proofs.lemmas.Bool.{false≢true, cases_Bool, and_parts}
+use Rattle.std.proofs.lemmas.Bool.{cases_Bool, and_parts}
 use Rattle.std.proofs.lemmas.Bool.Decides.{nat_tests}
+use lib.Pointwise.{pointwise}
+use Rattle.names.specs.Orders.{octets_decide}
 use Rattle.names.specs.Types.{is_star}
-use Rattle.names.specs.Wire.{Octets, Labels, lower, ends, is_name, split, labels_of, first_label, same_octets, after_label, after_labels, parent_of, lower_octets, are_labels}
-
-pub same_octets_true : (a b : Octets) → same_octets a b ≡ true → a ≡ b
-same_octets_true [] [] h = refl
-same_octets_true [] (y ∷ ys) h = absurd (false≢true h)
-same_octets_true (x ∷ xs) [] h = absurd (false≢true h)
-same_octets_true (x ∷ xs) (y ∷ ys) h = let ih = same_octets_true xs ys in grind (arith, nat_tests)
-
-pub same_octets_refl : (a : Octets) → same_octets a a ≡ true
-same_octets_refl [] = refl
-same_octets_refl (x ∷ xs) = let ih = same_octets_refl xs in grind (arith, nat_tests)
+use Rattle.names.specs.Wire.{Octets, Labels, lower, ends, is_name, split, labels_of, first_label, same_octets, star, after_label, after_labels, parent_of, lower_octets, are_labels}
 
 -- the octets of a label may be passed over at once
 pub ends_skip : (k : ℕ) (xs : Octets) → k ≤ length xs → ends k xs ≡ ends 0 (drop k xs)
@@ -83,7 +75,7 @@ name_first s l r e h =
 -- a name with no first label is the root
 pub root_alone : (s : Octets) → first_label s ≡ None → is_name s ≡ true → s ≡ 0 ∷ []
 unfolding is_name
-root_alone s e h = same_octets_true s (0 ∷ []) (sym (ends_none s e) ∙ (and_parts (leb (length s) 255) (ends 0 s) h).1)
+root_alone s e h = (octets_decide s (0 ∷ [])).0 (sym (ends_none s e) ∙ (and_parts (leb (length s) 255) (ends 0 s) h).1)
 
 split_short : (k : ℕ) (xs : Octets) → length (split k xs).1 ≤ length xs
 split_short zero [] = omega arith
@@ -132,7 +124,7 @@ after_more (suc k) s = after_more k (after_label s) ∙ ap (λ j. after_labels j
 pub some_same : {X : Type 0} (x y : X) → Some x ≡ Some y → x ≡ y
 some_same x y e = cc
 
-pub star_label : (l : Octets) → is_star (map lower l) ≡ (eqb (length l) 1 && eqb (get_or l 0 0) 42)
+pub star_label : (l : Octets) → is_star (map lower l) ≡ pointwise eqb l star
 star_label [] = refl
 star_label (x ∷ []) = grind (arith, nat_tests)
 star_label (x ∷ (y ∷ ys)) = grind (arith, nat_tests)

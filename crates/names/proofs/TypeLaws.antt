@@ -1,12 +1,12 @@
 -- Laws of sets of types.
-use Rattle.std.proofs.Common.{◌≡◌, ℕ, zero, suc, ◌+◌, ◌*◌, ◌/◌, ◌%◌, ◌<◌, ◌≤◌, true, false, not, ◌&&◌, ◌||◌, eqb, ltb, ◌≢◌, [], ◌∷◌, length, get_or, set, replicate, Decides, sym, refl, ap, ◌∙◌, ⊎_elim, arith, lit<, rules}
+use Rattle.std.proofs.Common.{◌≡◌, ℕ, zero, suc, ◌+◌, ◌*◌, ◌/◌, ◌%◌, ◌<◌, ◌≤◌, false, ◌&&◌, ◌||◌, eqb, ltb, ◌≢◌, [], ◌∷◌, length, get_or, set, replicate, Decides, sym, refl, ap, ◌∙◌, ⊎_elim, arith, lit<}
 use lib.Bits.{bit_or, or_lt}
 use Rattle.std.proofs.lemmas.Nat.{mod_below, div-mul-add, mod-mul-add, shr_le}
-use Rattle.std.proofs.lemmas.Slice.Eq.{compares_Decides}
 use Rattle.std.proofs.lemmas.List.{length-set, set_past, get_or-set_same, get_or-set_other, get_or_past, get_or-replicate, ext_get_or}
-use Rattle.std.proofs.lemmas.Bool.{cases_lt, cases_eq, cases_Bool}
+use Rattle.std.proofs.lemmas.Bool.{cases_lt, cases_eq}
 use Rattle.std.proofs.lemmas.Bool.Decides.{nat_tests, Decides-at}
-use Rattle.names.specs.Types.{Words, width, room, mask_of, has, with, no_types, empty, holdable, holdable_below}
+use Rattle.names.specs.Types.{Words, width, room, mask_of, has, with, no_types, empty}
+use Rattle.names.specs.Orders.{octets_decide}
 use Rattle.names.specs.Wire.{same_octets}
 use Rattle.names.proofs.Octet.{bit, bit_or_lem, same_from_bits}
 
@@ -99,9 +99,6 @@ same_from_has a b la lb ba bb h =
     (λ j q. sym (has_at a i j q) ∙ h (i * 8 + j) (omega arith) ∙ has_at b i j q))
 
 -- the test of two lists of octets tells whether they are equal
-pub same_octets_decides : (xs ys : Words) → Decides (same_octets xs ys) (xs ≡ ys)
-same_octets_decides = compares_Decides same_octets (search rules)
-
 -- words that are all 0
 none_from_empty : (n : ℕ) (ws : Words) → length ws ≡ n → empty ws ≡ same_octets ws (replicate n 0)
 none_from_empty zero [] e = refl
@@ -111,20 +108,4 @@ none_from_empty (suc n) (w ∷ ws) e = ap (λ b. eqb w 0 && b) (none_from_empty 
 
 -- a set is empty where it is the set of no type
 pub empty_decides : (ws : Words) → length ws ≡ width → Decides (empty ws) (ws ≡ no_types)
-empty_decides ws e = Decides-at (empty ws) (same_octets ws no_types) (none_from_empty width ws e) (same_octets_decides ws no_types)
-
--- each type of a set of which all may be held
-pub holdable_at : (n : ℕ) (ws : Words) → holdable_below n ws ≡ true → (t : ℕ) → t < n → (not (has ws t) || holdable t) ≡ true
-holdable_at zero ws e t h = let z : ⊥ = omega arith in absurd z
-holdable_at (suc n) ws e t h =
-    let ih = holdable_at n ws in
-    let eq : t ≡ n → (not (has ws t) || holdable t) ≡ (not (has ws n) || holdable n) = λ p. ap (λ k. not (has ws k) || holdable k) p in
-    grind arith
-
--- one type that may not be held
-pub not_holdable : (n : ℕ) (ws : Words) (t : ℕ) → t < n → has ws t ≡ true → holdable t ≡ false → holdable_below n ws ≡ false
-not_holdable n ws t h p q =
-    ⊎_elim
-    (λ e. let k = holdable_at n ws e t h in grind arith)
-    (λ e. e)
-    (cases_Bool (holdable_below n ws))
+empty_decides ws e = Decides-at (empty ws) (same_octets ws no_types) (none_from_empty width ws e) (octets_decide ws no_types)

@@ -1,40 +1,21 @@
 -- Canonical order (RFC 4034 section 6.1), ancestors, and the labels that two names share.
-use Rattle.std.specs.Prelude.{ℕ, suc, Bool, true, false, cond, ◌&&◌, ◌||◌, List, [], ◌∷◌, reverse, nat_lt}
-use Rattle.std.specs.declared.cmp.Ordering.TheVariants.{Less, Equal, Greater}
+use Rattle.std.specs.Prelude.{ℕ, suc, Bool, false, cond, ◌||◌, [], ◌∷◌, reverse}
+use Rattle.std.specs.Cmp.Lexicographic.{slice_cmp, pointwise}
+use Rattle.std.specs.Ordering.{nat_cmp}
 use Rattle.std.specs.declared.cmp.Ordering.{Ordering}
 use Rattle.names.specs.Wire.{Octets, Labels, same_octets}
 
--- two numbers
-abbrev pub by_number : ℕ → ℕ → Ordering
-by_number x y = cond (nat_lt x y) Less (cond (nat_lt y x) Greater Equal)
-
--- the first decides unless it is Equal
-abbrev pub or_else : Ordering → Ordering → Ordering
-or_else Less o = Less
-or_else Equal o = o
-or_else Greater o = Greater
-
--- two lists, element by element from the left: the first two that differ decide, and a list that ends first is less
-abbrev pub lexical : {X : Type 0} → (X → X → Ordering) → List X → List X → Ordering
-lexical by [] [] = Equal
-lexical by [] (y ∷ ys) = Less
-lexical by (x ∷ xs) [] = Greater
-lexical by (x ∷ xs) (y ∷ ys) = or_else (by x y) (lexical by xs ys)
-
--- two labels, as unsigned octets
+-- two labels, as unsigned octets: the first two that differ decide, and a label that ends first is less
 abbrev pub by_octets : Octets → Octets → Ordering
-by_octets a b = lexical by_number a b
+by_octets a b = slice_cmp nat_cmp a b
 
 -- two names, by their labels from the right
 unfoldable pub canonical : Labels → Labels → Ordering
-canonical a b = lexical by_octets (reverse a) (reverse b)
+canonical a b = slice_cmp by_octets (reverse a) (reverse b)
 
 -- two names are the same
 abbrev pub same_name : Labels → Labels → Bool
-same_name [] [] = true
-same_name [] (y ∷ ys) = false
-same_name (x ∷ xs) [] = false
-same_name (x ∷ xs) (y ∷ ys) = same_octets x y && same_name xs ys
+same_name n m = pointwise same_octets n m
 
 -- n is below m, and m an ancestor of n: n's labels end in all of m's, and n has more
 abbrev pub below : Labels → Labels → Bool

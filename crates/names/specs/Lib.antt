@@ -5,4 +5,4 @@ pub mod Types
 pub mod Refusals
 pub mod View
 pub mod TypeView
-pub mod Same
+pub mod Orders

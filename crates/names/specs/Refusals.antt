@@ -1,5 +1,5 @@
 -- The refusals: their numbers, and the one that comes before all others.
-use Rattle.std.specs.Prelude.{ℕ, cond, Err, Result}
+use Rattle.std.specs.Prelude.{ℕ, List, cond, Err, Result, codes}
 use Rattle.names.specs.Wire.{Octets, Labels, is_name, labels_of}
 use Rattle.names.specs.declared.refusal.Refusal.{Refusal}
 use Rattle.names.specs.declared.refusal.Refusal.TheVariants.{
@@ -53,6 +53,32 @@ number NextCloserNotExcluded = 20
 number WildcardNotExcluded = 21
 number TypesNotTold = 22
 number ToldOtherwise = 23
+
+-- what is printed of a refusal
+abbrev pub words : Refusal → List ℕ
+words NoName = codes "no name"
+words OutsideZone = codes "not at or below the apex"
+words TypesNotAllowed = codes "types that the name may not hold"
+words Held = codes "held already"
+words NotHeld = codes "not held"
+words IsApex = codes "the apex"
+words CrossesCut = codes "below a zone cut, or a zone cut above a held name"
+words BookFull = codes "no room in the book"
+words (SharedPlace i j) = codes "two names with one place"
+words TooFewSlots = codes "fewer record slots than records"
+words SettingNotAllowed = codes "a setting that is not allowed"
+words NotAskedType = codes "a type that may not be asked for"
+words NotSealed = codes "not sealed"
+words DsAtApex = codes "type DS at the apex"
+words (PlaceTaken i) = codes "a name to exclude has the place of a record"
+words ListTooShort = codes "an answer list under three records"
+words ClaimNotAllowed = codes "no such claim, or a label count out of range"
+words RecordsNotAllowed = codes "records that are not allowed"
+words NoEncloser = codes "no record encloses an ancestor"
+words NextCloserNotExcluded = codes "the next closer name is not excluded"
+words WildcardNotExcluded = codes "the wildcard is not excluded"
+words TypesNotTold = codes "the types are not told"
+words ToldOtherwise = codes "the types told say otherwise"
 
 -- the answer of a call that is given octets: what is no name is refused before all else
 abbrev pub of_name : {X : Type 0} → Octets → (Labels → Result X Refusal) → Result X Refusal

@@ -2,7 +2,8 @@
 --
 -- A type is a number below 65536. A set of types is a list of words, one octet each, as many as `width` says:
 -- type t is the mask 128 shifted right by t mod 8, in word t div 8.
-use Rattle.std.specs.Prelude.{ℕ, zero, suc, ◌*◌, ◌/◌, ◌%◌, ◌^◌, Bool, true, false, cond, not, ◌&&◌, ◌||◌, List, [], ◌∷◌, replicate, ◌==◌, bit_and, bit_or, nat_le, slice_index, slice_set}
+use Rattle.std.specs.Prelude.{ℕ, ◌*◌, ◌/◌, ◌%◌, ◌^◌, Bool, true, cond, not, ◌&&◌, ◌||◌, List, [], ◌∷◌, replicate, ◌==◌, bit_and, bit_or, nat_le, slice_index, slice_set}
+use Rattle.std.specs.List.{list_all, list_any, range_with_len}
 use Rattle.names.specs.Canonical.{same_name}
 use Rattle.names.specs.Wire.{Label, Labels, same_octets, star}
 
@@ -49,14 +50,9 @@ abbrev pub empty : Words → Bool
 empty [] = true
 empty (w ∷ ws) = w == 0 && empty ws
 
--- each type below n that the set holds may be held
-abbrev pub holdable_below : ℕ → Words → Bool
-holdable_below zero ws = true
-holdable_below (suc t) ws = holdable_below t ws && (not (has ws t) || holdable t)
-
 -- each type of the set may be held
 unfoldable pub only_holdable : Words → Bool
-only_holdable ws = holdable_below room ws
+only_holdable ws = list_all (λ t. not (has ws t) || holdable t) (range_with_len 0 room)
 
 -- NS (2) alone: what an unsigned zone cut holds
 unfoldable pub unsigned_cut : Words → Bool
@@ -76,8 +72,7 @@ is_star l = same_octets l star
 
 -- the label `*` stands somewhere in the name
 abbrev pub starred : Labels → Bool
-starred [] = false
-starred (l ∷ ls) = is_star l || starred ls
+starred n = list_any is_star n
 
 -- what a zone cut holds
 abbrev pub cut_set : Words → Bool

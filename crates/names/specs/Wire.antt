@@ -1,6 +1,7 @@
 -- Names. A name is a list of labels, the leftmost first, each a list of octets in lower case;
 -- the root is the empty list. `wire` and `parse` go between names and octets.
-use Rattle.std.specs.Prelude.{◌≡◌, ℕ, zero, suc, ◌+◌, ◌-◌, Bool, true, false, cond, ◌&&◌, List, [], ◌∷◌, ◌++◌, length, take, drop, Some, None, Option, ◌==◌, nat_le}
+use Rattle.std.specs.Prelude.{◌≡◌, ℕ, zero, suc, ◌+◌, ◌-◌, Bool, true, false, cond, ◌&&◌, List, [], ◌∷◌, ◌++◌, length, take, drop, Some, None, Option, ◌==◌, nat_eq, nat_le}
+use Rattle.std.specs.Cmp.Lexicographic.{pointwise}
 
 abbrev pub Octets : Type 0
 Octets = List ℕ
@@ -13,10 +14,7 @@ Labels = List (List ℕ)
 
 -- two octet strings are the same
 abbrev pub same_octets : Octets → Octets → Bool
-same_octets [] [] = true
-same_octets [] (y ∷ ys) = false
-same_octets (x ∷ xs) [] = false
-same_octets (x ∷ xs) (y ∷ ys) = x == y && same_octets xs ys
+same_octets a b = pointwise nat_eq a b
 
 -- octets 65 to 90, the letters A to Z, count as 97 to 122
 abbrev pub lower : ℕ → ℕ

@@ -1,10 +1,6 @@
 // Record types, and sets of them.
 ghost use Rattle.std.specs.Prelude.{◌≡◌};
-ghost use Rattle.names.specs.Same.{same_octets_equiv};
-ghost use Rattle.names.specs.TypeView.{words as words_in};
 ghost use Rattle.names.specs.Types.{asked, holdable};
-ghost use Rattle.names.specs.Wire.{same_octets};
-ghost use Rattle.std.specs.Cmp as Keys;
 
 mod members;
 mod octets;
@@ -41,34 +37,16 @@ const BITS: u16 = 8;
 pub const ROOM: u16 = BITS * WORDS as u16;
 
 // A set of types below ROOM. Type t is the bit 128 >> t % 8 of octet t / 8.
-#[derive(Clone, Copy)]
+#[derive(Clone, Copy, PartialEq, Eq)]
 pub struct TypeSet {
     words: [u8; WORDS],
-}
-
-// Two sets are equal where their octets are.
-impl PartialEq for TypeSet {
-    ghost eq = { λ a b. same_octets (words_in a) (words_in b) };
-
-    ghost laws = { Keys.partial_equiv_from_equiv (same_octets_equiv words_in) };
-
-    fn eq(&self, other: &TypeSet) -> bool {
-        self.words == other.words
-    }
-}
-
-impl Eq for TypeSet {
-    ghost laws = { same_octets_equiv words_in };
 }
 
 // Whether records of type t may be asked for.
 pub fn is_asked(t: u16) -> bool
     ensures { result ≡ asked t }
 {
-    if t < FIRST_ASKED || t > LAST_ASKED {
-        return false;
-    }
-    t != OPT && t != RRSIG && t != NSEC && t != NSEC3
+    (FIRST_ASKED..=LAST_ASKED).contains(&t) && !matches!(t, OPT | RRSIG | NSEC | NSEC3)
 }
 
 // Whether a name may hold records of type t.

@@ -1,4 +1,6 @@
-ghost use Rattle.std.specs.Prelude.{◌≡◌, map, length};
+ghost use Rattle.std.specs.Cmp.{partial_equiv_from_equiv};
+ghost use Rattle.std.specs.Prelude.{◌≡◌, map, length, Some, refl};
+ghost use Rattle.names.specs.Orders.{same_name_equiv, canonical_partial, canonical_total_by, names_ties};
 ghost use Rattle.names.specs.Canonical.{canonical as canonical_order, shared as shared_labels, by_octets, same_name, below, at_or_below};
 ghost use Rattle.names.specs.Laws.{StrictTotal, Families};
 ghost use Rattle.names.specs.View.{labels as labels_in};
@@ -8,45 +10,13 @@ use crate::name::Name;
 use crate::name::reading::first_label;
 use std::cmp::Ordering;
 
-const UPPER_A: u8 = 65;
-
-const UPPER_Z: u8 = 90;
-
-const TO_LOWER: u8 = 32;
-
-// An octet in lower case.
-pub(crate) fn lower_octet(x: u8) -> u8
-    ensures { result ≡ lower x }
-{
-    if x >= UPPER_A && x <= UPPER_Z {
-        x + TO_LOWER
-    } else {
-        x
-    }
-}
-
 // Two labels, octet by octet in lower case.
 fn compare_labels(a: &[u8], b: &[u8]) -> Ordering
     ensures { result ≡ by_octets (map lower a.now) (map lower b.now) }
 {
-    for (i, x) in a.iter().enumerate() {
-        if i >= b.len() {
-            return Ordering::Greater;
-        }
-        let p = lower_octet(*x);
-        let q = lower_octet(b[i]);
-        if p < q {
-            return Ordering::Less;
-        }
-        if q < p {
-            return Ordering::Greater;
-        }
-    }
-    if a.len() < b.len() {
-        Ordering::Less
-    } else {
-        Ordering::Equal
-    }
+    a.iter()
+        .map(|x| x.to_ascii_lowercase())
+        .cmp(b.iter().map(|y| y.to_ascii_lowercase()))
 }
 
 // What two names have in common: the labels that they share from the root on, and their order.
@@ -103,27 +73,11 @@ fn meet(a: &Name<'_>, b: &Name<'_>) -> Meeting
 }
 
 impl Name<'_> {
-    // Canonical order (RFC 4034 section 6.1): labels from the right, as unsigned octets in lower case; what ends first is
-    // less.
-    pub fn compare(&self, other: &Name<'_>) -> Ordering
-        ensures value { result ≡ canonical_order (labels_in self.now) (labels_in other.now) }
-        ensures total { StrictTotal canonical_order }
-    {
-        meet(self, other).order
-    }
-
     // How many labels the two names share, counted from the root.
     pub fn shared_labels(&self, other: &Name<'_>) -> usize
         ensures { result ≡ shared_labels (labels_in self.now) (labels_in other.now) }
     {
         meet(self, other).shared
-    }
-
-    // Whether the two are the same name.
-    pub fn is_same(&self, other: &Name<'_>) -> bool
-        ensures { result ≡ same_name (labels_in self.now) (labels_in other.now) }
-    {
-        matches!(self.compare(other), Ordering::Equal)
     }
 
     // Whether this name is the other one or below it.
@@ -136,8 +90,50 @@ impl Name<'_> {
     // Whether the other name is an ancestor of this one.
     pub fn is_below(&self, other: &Name<'_>) -> bool
         ensures value { result ≡ below (labels_in self.now) (labels_in other.now) }
+        ensures total { StrictTotal canonical_order }
         ensures families { Families }
     {
         other.label_count() < self.label_count() && self.is_at_or_below(other)
+    }
+}
+
+// Two names are equal if they are the same name.
+impl PartialEq for Name<'_> {
+    ghost eq = { λ a b. same_name (labels_in a) (labels_in b) };
+
+    ghost laws = { partial_equiv_from_equiv (same_name_equiv labels_in) };
+
+    fn eq(&self, other: &Self) -> bool {
+        self.cmp(other).is_eq()
+    }
+}
+
+impl Eq for Name<'_> {
+    ghost laws = { same_name_equiv labels_in };
+}
+
+impl PartialOrd for Name<'_> {
+    ghost partial_cmp = { λ a b. Some (canonical_order (labels_in a) (labels_in b)) };
+
+    ghost laws = { canonical_partial labels_in };
+
+    fn partial_cmp(&self, other: &Self) -> Option<Ordering> {
+        Some(self.cmp(other))
+    }
+}
+
+// Canonical order (RFC 4034 section 6.1): labels from the right, as unsigned octets in lower case; what ends first is
+// less.
+impl Ord for Name<'_> {
+    ghost cmp = { λ a b. canonical_order (labels_in a) (labels_in b) };
+
+    ghost total = { canonical_total_by labels_in };
+
+    ghost matches_partial_cmp = { λ a b. refl };
+
+    ghost matches_eq = { λ a b. names_ties (labels_in a) (labels_in b) };
+
+    fn cmp(&self, other: &Self) -> Ordering {
+        meet(self, other).order
     }
 }

@@ -5,6 +5,7 @@ ghost use Rattle.names.specs.View.{octets as octets_in, labels as labels_in, rea
 ghost use Rattle.names.specs.Wire.{lower, is_name, first_label, parse, parent_of, ancestor_of, after_label, after_labels};
 ghost use Rattle.std.specs.Option.{option_map};
 
+use crate::name::labels::Labels;
 use crate::name::{MAX_NAME, Name, STAR};
 use crate::refusal::Refusal;
 
@@ -30,10 +31,18 @@ pub(crate) fn first_label(s: &[u8]) -> Option<(&[u8], &[u8])>
 fn is_star(label: &[u8]) -> bool
     ensures { result ≡ is_star (map lower label.now) }
 {
-    label.len() == 1 && label[0] == STAR
+    label == [STAR].as_slice()
 }
 
 impl<'a> Name<'a> {
+    // The octets that the name was read from.
+    pub fn octets(&self) -> &'a [u8]
+        ensures value { result.now ≡ octets_in self.now }
+        ensures name { is_name result.now ≡ true }
+    {
+        self.octets
+    }
+
     // The name that the octets are.
     pub fn read(octets: &'a [u8]) -> Result<Name<'a>, Refusal>
         ensures octets { read_octets result ≡ (if is_name octets.now then Some octets.now else None) }
@@ -48,14 +57,17 @@ impl<'a> Name<'a> {
         while let Some((_, rest)) = first_label(left) {
             left = rest;
         }
-        let [last] = left else {
+        let [END] = left else {
             return Err(Refusal::NoName);
         };
-        if *last == END {
-            Ok(Name { octets })
-        } else {
-            Err(Refusal::NoName)
-        }
+        Ok(Name { octets })
+    }
+
+    // The labels, as they stand.
+    pub fn labels(&self) -> Labels<'a>
+        ensures { labels_in result.left ≡ labels_in self.now }
+    {
+        Labels { left: *self }
     }
 
     // How many labels the name has.
@@ -63,22 +75,14 @@ impl<'a> Name<'a> {
         ensures value { result ≡ length (labels_in self.now) }
         ensures bound { result ≤ length (octets_in self.now) }
     {
-        let mut count = 0;
-        let mut left = self.octets;
-        while let Some((_, rest)) = first_label(left) {
-            count += 1;
-            left = rest;
-        }
-        count
+        self.labels().count()
     }
 
     // The first label, as it stands, and the name after it; the root has none.
     pub fn split_first(&self) -> Option<(&'a [u8], Name<'a>)>
         ensures { option_map (λ p. (p.0.now, octets_in p.1)) result ≡ first_label (octets_in self.now) }
     {
-        let Some((label, rest)) = first_label(self.octets) else {
-            return None;
-        };
+        let (label, rest) = first_label(self.octets)?;
         Some((label, Name { octets: rest }))
     }
 
@@ -87,9 +91,7 @@ impl<'a> Name<'a> {
         ensures labels { option_map labels_in result ≡ parent_of (labels_in self.now) }
         ensures octets { option_map octets_in result ≡ option_map (λ _. after_label (octets_in self.now)) result }
     {
-        let Some((_, rest)) = self.split_first() else {
-            return None;
-        };
+        let (_, rest) = self.split_first()?;
         Some(rest)
     }
 
@@ -97,14 +99,7 @@ impl<'a> Name<'a> {
     pub fn has_star_label(&self) -> bool
         ensures { result ≡ starred (labels_in self.now) }
     {
-        let mut left = self.octets;
-        while let Some((label, rest)) = first_label(left) {
-            if is_star(label) {
-                return true;
-            }
-            left = rest;
-        }
-        false
+        self.labels().any(|label| is_star(label))
     }
 
     // The name without its first k labels, or the root where it has fewer.

@@ -5,14 +5,16 @@ ghost use Rattle.names.specs.Types.{has};
 
 use crate::types::{TypeSet, WORDS};
 
-impl TypeSet {
-    // The set that the octets are.
-    pub fn from_octets(octets: &[u8; WORDS]) -> TypeSet
-        ensures { words_in result ≡ octets.now }
-    {
-        TypeSet { words: *octets }
-    }
+// The set that the octets are.
+impl From<[u8; WORDS]> for TypeSet {
+    ghost from_gives = { λ octets set. words_in set ≡ octets };
 
+    fn from(octets: [u8; WORDS]) -> TypeSet {
+        TypeSet { words: octets }
+    }
+}
+
+impl TypeSet {
     // The octets of the set.
     pub fn to_octets(&self) -> [u8; WORDS]
         ensures value { result ≡ words_in self.now }

@@ -19,12 +19,7 @@ impl TypeSet {
     pub fn only_holdable(&self) -> bool
         ensures { result ≡ only_holdable (words_in self.now) }
     {
-        for t in 0..ROOM {
-            if self.has(t) && !is_holdable(t) {
-                return false;
-            }
-        }
-        true
+        (0..ROOM).all(|t| !self.has(t) || is_holdable(t))
     }
 
     // Whether the set is NS alone, what an unsigned zone cut holds.
@@ -78,7 +73,7 @@ impl TypeSet {
     pub fn breaks_rule(&self, apex: &Name<'_>, name: &Name<'_>) -> bool
         ensures { result ≡ rule_broken (labels_in apex.now) (labels_in name.now) (words_in self.now) }
     {
-        if name.is_same(apex) {
+        if name == apex {
             return !self.allowed_at_apex();
         }
         !self.allowed_below_apex(name)

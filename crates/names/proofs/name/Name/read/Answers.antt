@@ -22,16 +22,16 @@ returns-in_default-left c =
     let z = only_zero c.loop-rest.left.now in
     record { octets = grind (arith, nat_tests); labels = grind (arith, nat_tests); refused = refl; undo = wire_and_parse }
 
-pub returns-then-last-eq-END : goal.returns-then-last-eq-END
+pub invariant_of-result : goal.invariant_of-result
 unfolding is_name
-returns-then-last-eq-END c =
+invariant_of-result c =
+    let e = ends_none c.loop-rest.left.now (sym c.in_default.ensures) in
+    let z = only_zero c.loop-rest.left.now in
+    record { whole = grind (arith, nat_tests) }
+
+pub returns : goal.returns
+unfolding is_name
+returns c =
     let e = ends_none c.loop-rest.left.now (sym c.in_default.ensures) in
     let z = only_zero c.loop-rest.left.now in
     record { octets = grind (arith, nat_tests); labels = grind (arith, nat_tests); refused = tt; undo = wire_and_parse }
-
-pub returns-else-last-eq-END : goal.returns-else-last-eq-END
-unfolding is_name
-returns-else-last-eq-END c =
-    let e = ends_none c.loop-rest.left.now (sym c.in_default.ensures) in
-    let z = only_zero c.loop-rest.left.now in
-    record { octets = grind (arith, nat_tests); labels = grind (arith, nat_tests); refused = refl; undo = wire_and_parse }

@@ -1,34 +1,14 @@
-use Rattle.std.proofs.Common.{arith}
-use Rattle.std.proofs.lemmas.Bool.Decides.{nat_tests}
-use Rattle.names.proofs.Steps.{folded_more, folded_long, folded_short, folded_end}
+use Rattle.std.specs.Ordering.{nat_cmp}
+use Rattle.std.proofs.Common.{◌≡◌, map, refl, ap, ◌∙◌, rules}
+use Rattle.std.proofs.lemmas.Iterator.{YieldsList-from_slice, YieldsList-from_map}
+use Rattle.std.proofs.lemmas.Iterator.Search.{cmp_from_yields_List}
+use Rattle.names.specs.Wire.{lower}
+use Rattle.names.proofs.Slices.{ascii_lower}
 use Rattle.names.proofs.name.comparing.compare_labels.Goals as goal
 
-pub returns-then-i-b : goal.returns-then-i-b
-returns-then-i-b c =
-    let e = folded_long c.args.a.now c.args.b.now c.loop-i.i c.loop-i-test.true c.if-i-b.true in
-    grind arith
-
-pub returns-then-p-q : goal.returns-then-p-q
-returns-then-p-q c =
-    let e = folded_more c.args.a.now c.args.b.now c.loop-i.i c.loop-i-test.true c.if-i-b.false in
-    grind (arith, nat_tests)
-
-pub returns-then-q-p : goal.returns-then-q-p
-returns-then-q-p c =
-    let e = folded_more c.args.a.now c.args.b.now c.loop-i.i c.loop-i-test.true c.if-i-b.false in
-    grind (arith, nat_tests)
-
-pub loop-i-preserved : goal.loop-i-preserved
-loop-i-preserved c =
-    let e = folded_more c.args.a.now c.args.b.now c.loop-i.i c.loop-i-test.true c.if-i-b.false in
-    grind (arith, nat_tests)
-
-pub returns-then-a-b : goal.returns-then-a-b
-returns-then-a-b c =
-    let e = folded_short c.args.a.now c.args.b.now c.loop-i.i c.loop-i-test.false (omega arith) in
-    grind arith
-
-pub returns-else-a-b : goal.returns-else-a-b
-returns-else-a-b c =
-    let e = folded_end c.args.a.now c.args.b.now c.loop-i.i c.loop-i-test.false (omega arith) in
-    grind arith
+pub returns : goal.returns
+returns c =
+    cmp_from_yields_List {xs = map lower c.args.a.now} {ys = map lower c.args.b.now} (λ u t. t ≡ u) c.map-2.result nat_cmp _ c.cmp.ensures.ran
+    (YieldsList-from_map _ lower (YieldsList-from_slice c.args.a.now (search rules)) (search rules) (λ x r q e. search (rules, ascii_lower)))
+    (λ it e. YieldsList-from_map _ lower (YieldsList-from_slice c.args.b.now (ap (λ t. t.iter.rest.now) e ∙ search rules)) (ap (λ t. t.f) e ∙ search rules) (λ x r q k. search (rules, ascii_lower)))
+    (λ x y. refl)

@@ -1,5 +1,5 @@
 use Rattle.names.specs.View.{labels}
-use Rattle.names.proofs.Steps.{level_names, level_equal, level_other, ranked_number}
+use Rattle.names.proofs.Steps.{level_names, level_equal, level_other}
 use Rattle.names.proofs.name.comparing.meet.Goals as goal
 
 pub meet_level-shared-requires : goal.meet_level-shared-requires
@@ -9,7 +9,7 @@ meet_level-shared-requires c =
 pub returns-in-Equal : goal.returns-in-Equal
 returns-in-Equal c =
     let l = level_names (labels c.args.a.now) (labels c.args.b.now) _ _ _ _ _ c.label_count-m.ensures.value c.label_count-n.ensures.value c.min-fewer.ensures c.without.ensures.labels c.without-2.ensures.labels in
-    let e = level_equal _ _ _ _ _ _ _ _ _ l c.meet_level-shared.ensures.shared c.meet_level-shared.ensures.order c.in-Equal.is (ranked_number c.label_count-m.result c.label_count-n.result _ c.cmp-order.ensures) c.label_count-m.ensures.value c.label_count-n.ensures.value in
+    let e = level_equal _ _ _ _ _ _ _ _ _ l c.meet_level-shared.ensures.shared c.meet_level-shared.ensures.order c.in-Equal.is c.cmp-order.ensures c.label_count-m.ensures.value c.label_count-n.ensures.value in
     record { shared = e.0; order = e.1 }
 
 pub returns-in_default : goal.returns-in_default

@@ -1,10 +1,8 @@
-use Rattle.std.proofs.Common.{arith}
-use Rattle.std.proofs.lemmas.Bool.Decides.{nat_tests}
+use Rattle.std.proofs.Common.{sym, ap, ◌∙◌}
+use lib.Dec.{eqb}
+use lib.Pointwise.{pointwise}
 use Rattle.names.proofs.Reader.{star_label}
 use Rattle.names.proofs.name.reading.is_star.Goals as goal
 
-pub returns-then-label-eq1 : goal.returns-then-label-eq1
-returns-then-label-eq1 c = let e = star_label c.args.label.now in grind (arith, nat_tests)
-
-pub returns-else-label-eq1 : goal.returns-else-label-eq1
-returns-else-label-eq1 c = let e = star_label c.args.label.now in grind (arith, nat_tests)
+pub returns : goal.returns
+returns c = c.eq.ensures ∙ ap (pointwise eqb c.args.label.now) c.as_slice.ensures ∙ sym (star_label c.args.label.now)
