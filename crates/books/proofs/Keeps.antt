@@ -2,8 +2,9 @@
 use Rattle.std.proofs.Common.{◌≡◌, true, false, cond, [], ◌∷◌, Some, None, Ordering, Less, Equal, Greater, sym, refl, ap, ◌∙◌, arith}
 use Rattle.std.proofs.lemmas.Bool.{false≢true, cases_Bool}
 use Rattle.std.proofs.lemmas.Bool.Decides.{nat_tests}
-use Rattle.std.specs.Ordering.{is_lt}
-use Rattle.names.proofs.Ordered.{canonical_total, same_name_true, same_name_equal}
+use Rattle.std.specs.Ordering.{is_eq, is_lt}
+use Rattle.names.specs.Orders.{names_decide, names_ties}
+use Rattle.names.proofs.Ordered.{canonical_total}
 use Rattle.names.specs.Canonical.{canonical, same_name}
 use Rattle.names.specs.Wire.{Labels, is_labels}
 use Rattle.books.proofs.Rising.{less_irreflexive, less_transitive, rises_tail}
@@ -18,15 +19,15 @@ by_case a b Greater e h k g = ap is_lt (g e)
 pub less_other : (a b : Labels) → less a b ≡ false → same_name a b ≡ false → less b a ≡ true
 less_other a b h k =
     let t = canonical_total.less a b in
-    let e = same_name_equal a b in
-    by_case a b (canonical a b) refl h (λ q. absurd (false≢true (sym k ∙ e q))) t
+    let e = names_ties a b in
+    by_case a b (canonical a b) refl h (λ q. absurd (false≢true (sym k ∙ e ∙ ap is_eq q))) t
 
 -- a name that is not greater than what stands before a list is not in the list
 pub none_before : (m n : Labels) (hs : Held) → rises_from n hs ≡ true → less n m ≡ false → entry_of m hs ≡ None
 none_before m n [] h k = refl
 none_before m n (e ∷ es) h k =
     let t = less_transitive n e.0 m in
-    let s = same_name_true m e.0 in
+    let s = (names_decide m e.0).0 in
     let c = cases_Bool (same_name m e.0) in
     let d = cases_Bool (less e.0 m) in
     let q : m ≡ e.0 → less n m ≡ less n e.0 = λ p. ap (less n) p in
@@ -81,7 +82,7 @@ entry_with n e (f ∷ fs) k =
     let d = cases_Bool (less e.0 f.0) in
     let u = cases_Bool (same_name n e.0) in
     let v = cases_Bool (same_name n f.0) in
-    let p = same_name_true n e.0 in
+    let p = (names_decide n e.0).0 in
     let r = entry_with n e fs in
     let q : n ≡ e.0 → same_name e.0 f.0 ≡ same_name n f.0 = λ z. ap (λ y. same_name y f.0) (sym z) in
     grind (arith, nat_tests)
@@ -92,8 +93,8 @@ entry_without n m (e ∷ es) h =
     let s = cases_Bool (same_name m e.0) in
     let u = cases_Bool (same_name n m) in
     let v = cases_Bool (same_name n e.0) in
-    let p = same_name_true n m in
-    let p2 = same_name_true m e.0 in
+    let p = (names_decide n m).0 in
+    let p2 = (names_decide m e.0).0 in
     let r = entry_without n m es (rises_tail e.0 es h) in
     let b : less e.0 n ≡ false → entry_of n es ≡ None = none_before n e.0 es h in
     let i = less_irreflexive e.0 in

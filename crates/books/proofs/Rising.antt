@@ -1,7 +1,8 @@
 -- Lists of names that rise.
 use Rattle.std.proofs.Common.{◌≡◌, true, false, [], ◌∷◌, ◌++◌, refl, ap, arith}
 use Rattle.std.proofs.lemmas.Bool.{cases_Bool}
-use Rattle.names.proofs.Ordered.{canonical_total, same_name_true, same_name_refl}
+use Rattle.names.specs.Orders.{names_decide}
+use Rattle.names.proofs.Ordered.{canonical_total}
 use Rattle.names.specs.Canonical.{same_name}
 use Rattle.names.specs.Wire.{Labels, is_labels}
 use Rattle.books.specs.Held.{Entry, Held, less, rises_from, rises, entry_after, first_entry, from_name}
@@ -14,7 +15,7 @@ less_transitive a b c h k = let t = canonical_total.transitive a b c in grind ar
 
 pub less_apart : (a b : Labels) → less a b ≡ true → same_name b a ≡ false
 less_apart a b h =
-    let s = same_name_true b a in
+    let s = (names_decide b a).0 in
     let i = less_irreflexive a in
     let c = cases_Bool (same_name b a) in
     let e : b ≡ a → less a b ≡ less a a = λ p. ap (less a) p in
@@ -61,7 +62,7 @@ after_entry (d ∷ ds) e es h =
 
 -- the part of the list from an entry on
 pub from_entry : (ds : Held) (e : Entry) (es : Held) → rises (ds ++ (e ∷ es)) ≡ true → from_name e.0 (ds ++ (e ∷ es)) ≡ e ∷ es
-from_entry [] e es h = let s = same_name_refl e.0 in rw s
+from_entry [] e es h = let s = (names_decide e.0 e.0).1 refl in rw s
 from_entry (d ∷ ds) e es h =
     let b = before_all d.0 ds e es h in
     let n = less_apart d.0 e.0 b in

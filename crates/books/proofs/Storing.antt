@@ -16,9 +16,8 @@ pub record Stands (s before : Octets) (n : ℕ) (octets : Octets) : Type 0 where
   pub all : octets ≡ written (map lower s) before
   pub labels : labels_of (take n octets) ≡ labels_of s
 
-pub stands : (s t before : Octets) (n : ℕ) (octets : Octets) → is_name s ≡ true → t ≡ s → (is_name t ≡ true → Wrote (wire (labels_of t)) before n octets) → Stands s before n octets
-stands s t before n octets h e f =
-    let w = f (ap is_name e ∙ h) in
+pub stands : (s t before : Octets) (n : ℕ) (octets : Octets) → is_name s ≡ true → t ≡ s → Wrote (wire (labels_of t)) before n octets → Stands s before n octets
+stands s t before n octets h e w =
     let w0 : n ≡ length (wire (labels_of s)) = w.count ∙ ap (λ u. length (wire (labels_of u))) e in
     let b : octets ≡ written (wire (labels_of s)) before = w.buffer ∙ ap (λ u. written (wire (labels_of u)) before) e in
     let p : wire (labels_of s) ≡ map lower s = (wire_labels s h).1 in

@@ -4,6 +4,7 @@ mod wire;
 
 use names::refusal::Refusal;
 use names::types::{TypeSet, WORDS, is_asked, is_holdable};
+use std::test::Fail;
 
 // The types below 131 that may not be asked for.
 const NEVER: [u16; 8] = [0, 41, 46, 47, 50, 128, 129, 130];
@@ -56,7 +57,7 @@ fn octets_of_types(rt: HostRuntime) {
 
 #[test]
 fn types_of_octets(rt: HostRuntime) {
-    let set = TypeSet::from_octets(&[0x40, 0, 0, 0, 0, 0x02, 0, 0, 0, 0, 0, 0, 0, 0, 0, 0x01]);
+    let set = TypeSet::from([0x40, 0, 0, 0, 0, 0x02, 0, 0, 0, 0, 0, 0, 0, 0, 0, 0x01]);
     for t in 0..131u16 {
         assert_eq!(rt; set.has(t), t == 1 || t == 46 || t == 127, "{}", t);
     }
@@ -124,4 +125,19 @@ fn refusals_numbered(rt: HostRuntime) {
     for (i, r) in REFUSALS.iter().enumerate() {
         assert_eq!(rt; usize::from(r.number()), i + 1);
     }
+}
+
+#[test]
+fn refusals_printed(rt: HostRuntime) -> Result<(), Fail> {
+    let heap = rt.alloc();
+    assert_eq!(rt; Refusal::NoName.to_string(heap)?.as_str(), "no name");
+    assert_eq!(rt;
+        Refusal::SharedPlace(3, 7).to_string(heap)?.as_str(),
+        "two names with one place"
+    );
+    assert_eq!(rt;
+        Refusal::ToldOtherwise.to_string(heap)?.as_str(),
+        "the types told say otherwise"
+    );
+    Ok(())
 }

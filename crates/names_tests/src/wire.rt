@@ -1,7 +1,6 @@
 // Names in wire form.
 use names::name::Name;
 use std::alloc::{AllocError, Global};
-use std::cmp::Ordering;
 use std::test::Fail;
 
 // The example list of RFC 4034 section 6.1, which is in canonical order.
@@ -23,8 +22,8 @@ fn rfc_4034_order(rt: HostRuntime) -> Result<(), Fail> {
         for (j, b) in SORTED.iter().enumerate() {
             let a = Name::read(a)?;
             let b = Name::read(b)?;
-            assert!(rt; a.compare(&b) == i.cmp(&j));
-            assert_eq!(rt; a.is_same(&b), i == j);
+            assert!(rt; a.cmp(&b) == i.cmp(&j));
+            assert_eq!(rt; a == b, i == j);
         }
     }
     Ok(())
@@ -35,9 +34,7 @@ fn long_name(heap: Global, labels: &[u8]) -> Result<Vec<u8>, AllocError> {
     let mut s = Vec::new(heap);
     for n in labels {
         s.push(*n)?;
-        for _ in 0..*n {
-            s.push(b'x')?;
-        }
+        s.resize(s.len() + usize::from(*n), b'x')?;
     }
     s.push(0)?;
     Ok(s)
