@@ -1,12 +1,11 @@
 -- All rounds of a block: rounds of one kind after another, over the schedule taken as windows of 16 words.
 use Rattle.std.proofs.Common.{◌≡◌, ℕ, zero, suc, ◌+◌, ◌-◌, ◌%◌, ◌<◌, ◌≤◌, true, false, ltb, List, [], ◌∷◌, ◌++◌, length, get_or, take, drop, set, sym, refl, ap, ◌∙◌, inl, inr, append_assoc, append-nil, add-one, arith}
-use lib.Lanes.{fold_l}
+use Rattle.std.specs.List.{fold}
 use Rattle.std.proofs.lemmas.Bool.{lt-ltb, le-ltb, cases_lt}
-use Rattle.std.proofs.lemmas.List.{length-append, length-drop, get_or_append_left, get_or-append_right, get_or-drop, get_or-take, take_all, take-append-le, take-append-drop, length-take-le, drop_all, drop_more, drop-append-le, set_at}
-use Rattle.std.proofs.lemmas.List.Edits.{between_more, length-between}
+use Rattle.std.proofs.lemmas.List.{length-append, length-drop, get_or_append_left, get_or-append_right, get_or-drop, get_or-take, take_all, take-append-le, take-append-drop, length-take, length-take-le, drop_all, drop_more, drop-append-le, set_at}
 use Rattle.digests.specs.declared.sha1.rounds.State.{State}
 use lib.Bits.{bit_xor}
-use Rattle.digests.specs.Runs.{span, choosing, parting, majoring, window}
+use Rattle.digests.specs.Runs.{choosing, parting, majoring, window}
 use Rattle.digests.specs.Sha.{rotl, next_word, schedule, rounds, stepped}
 
 schedule_none : (b : List ℕ) → schedule b 0 ≡ b
@@ -16,15 +15,6 @@ schedule_none b = refl
 schedule_suc : (b : List ℕ) (n : ℕ) → schedule b (suc n) ≡ schedule b n ++ (next_word (schedule b n) n ∷ [])
 unfolding schedule
 schedule_suc b n = refl
-
--- a fold over one more
-pub fold_snoc : (f : State → ℕ → State) (s : State) (xs : List ℕ) (y : ℕ) → fold_l f s (xs ++ (y ∷ [])) ≡ f (fold_l f s xs) y
-fold_snoc f s [] y = refl
-fold_snoc f s (x ∷ xs) y = fold_snoc f (f s x) xs y
-
-pub fold_more : (f : State → ℕ → State) (s x : State) (w : List ℕ) (from t : ℕ) → from ≤ t → t < length w → x ≡ fold_l f s (span w from t) → f x (get_or w t 0) ≡ fold_l f s (span w from (t + 1))
-fold_more f s x w from t h k e =
-    ap (λ y. f y (get_or w t 0)) e ∙ sym (ap (fold_l f s) (between_more w from t 0 h k) ∙ fold_snoc f s (span w from t) (get_or w t 0))
 
 pub rounds_append : (t : ℕ) (s : State) (xs ys : List ℕ) → rounds t s (xs ++ ys) ≡ rounds (t + length xs) (rounds t s xs) ys
 rounds_append t s [] ys = ap (λ n. rounds n s ys) (omega arith)
@@ -46,21 +36,21 @@ same_second : (t : ℕ) (s : State) (w : ℕ) → 60 ≤ t → stepped t s w ≡
 same_second t s w g = let e : ltb t 20 ≡ false = le-ltb _ _ (omega arith) in let f : ltb t 40 ≡ false = le-ltb _ _ (omega arith) in let k : ltb t 60 ≡ false = le-ltb _ _ g in rw (e, f, k)
 
 -- a fold of one kind is the rounds from t on, as long as each is of that kind
-rounds_by : (f : State → ℕ → State) (lo hi : ℕ) → ((t : ℕ) (s : State) (w : ℕ) → lo ≤ t → t < hi → stepped t s w ≡ f s w) → (t : ℕ) (s : State) (ws : List ℕ) → lo ≤ t → t + length ws ≤ hi → fold_l f s ws ≡ rounds t s ws
+rounds_by : (f : State → ℕ → State) (lo hi : ℕ) → ((t : ℕ) (s : State) (w : ℕ) → lo ≤ t → t < hi → stepped t s w ≡ f s w) → (t : ℕ) (s : State) (ws : List ℕ) → lo ≤ t → t + length ws ≤ hi → fold f s ws ≡ rounds t s ws
 rounds_by f lo hi same t s [] g h = refl
 rounds_by f lo hi same t s (w ∷ ws) g h =
-    ap (λ x. fold_l f x ws) (sym (same t s w g (omega arith))) ∙ rounds_by f lo hi same (t + 1) (stepped t s w) ws (omega arith) (omega arith)
+    ap (λ x. fold f x ws) (sym (same t s w g (omega arith))) ∙ rounds_by f lo hi same (t + 1) (stepped t s w) ws (omega arith) (omega arith)
 
-pub by_choose : (t : ℕ) (s : State) (ws : List ℕ) → t + length ws ≤ 20 → fold_l choosing s ws ≡ rounds t s ws
+pub by_choose : (t : ℕ) (s : State) (ws : List ℕ) → t + length ws ≤ 20 → fold choosing s ws ≡ rounds t s ws
 by_choose t s ws h = rounds_by choosing 0 20 (λ t s w _ k. same_choose t s w k) t s ws (omega arith) h
 
-pub by_first : (t : ℕ) (s : State) (ws : List ℕ) → 20 ≤ t → t + length ws ≤ 40 → fold_l (parting 0x6ed9eba1) s ws ≡ rounds t s ws
+pub by_first : (t : ℕ) (s : State) (ws : List ℕ) → 20 ≤ t → t + length ws ≤ 40 → fold (parting 0x6ed9eba1) s ws ≡ rounds t s ws
 by_first = rounds_by (parting 0x6ed9eba1) 20 40 same_first
 
-pub by_majority : (t : ℕ) (s : State) (ws : List ℕ) → 40 ≤ t → t + length ws ≤ 60 → fold_l majoring s ws ≡ rounds t s ws
+pub by_majority : (t : ℕ) (s : State) (ws : List ℕ) → 40 ≤ t → t + length ws ≤ 60 → fold majoring s ws ≡ rounds t s ws
 by_majority = rounds_by majoring 40 60 same_majority
 
-pub by_second : (t : ℕ) (s : State) (ws : List ℕ) → 60 ≤ t → t + length ws ≤ 80 → fold_l (parting 0xca62c1d6) s ws ≡ rounds t s ws
+pub by_second : (t : ℕ) (s : State) (ws : List ℕ) → 60 ≤ t → t + length ws ≤ 80 → fold (parting 0xca62c1d6) s ws ≡ rounds t s ws
 by_second = rounds_by (parting 0xca62c1d6) 60 80 (λ t s w g _. same_second t s w g)
 
 -- ---- windows of the schedule
@@ -146,48 +136,55 @@ schedule_shift w (suc m) l =
 pub length_window : (w : List ℕ) → length w ≡ 16 → length (window w) ≡ 16
 length_window w l = let ls = length_schedule w 16 in simp length-drop (omega arith)
 
--- the length of a part of a window
-length_span : (w : List ℕ) (i j : ℕ) → j ≤ length w → length (span w i j) ≡ j - i
-length_span = length-between
-
 -- two runs over one window
-split_window : (t : ℕ) (s : State) (w : List ℕ) (m : ℕ) → length w ≡ 16 → m ≤ 16 → rounds (t + m) (rounds t s (span w 0 m)) (span w m 16) ≡ rounds t s w
-split_window t s w m l h =
-    let a : span w 0 m ≡ take m w = ap (λ n. take n w) (omega arith) in
-    let b : span w m 16 ≡ drop m w = take_all (16 - m) (drop m w) (simp length-drop (omega arith)) in
-    let la : length (take m w) ≡ m = length-take-le m w (omega arith) in
-    rw (a, b) (ap (λ n. rounds (t + n) (rounds t s (take m w)) (drop m w)) (sym la) ∙ sym (rounds_append t s (take m w) (drop m w)) ∙ ap (rounds t s) (take-append-drop m w))
+split_window : (t m : ℕ) (s x y : State) (w : List ℕ) → length w ≡ 16 → m ≤ 16 → x ≡ rounds t s (take m w) → y ≡ rounds (t + m) x (take (16 - m) (drop m w)) → y ≡ rounds t s w
+split_window t m s x y w l h e f =
+    let lt : length (take m w) ≡ m = length-take-le m w (omega arith) in
+    f
+    ∙ ap (rounds (t + m) x) (take_all (16 - m) (drop m w) (simp length-drop (omega arith)))
+    ∙ ap (λ r. rounds (t + m) r (drop m w)) e
+    ∙ ap (λ n. rounds (t + n) (rounds t s (take m w)) (drop m w)) (sym lt)
+    ∙ sym (rounds_append t s (take m w) (drop m w))
+    ∙ ap (rounds t s) (take-append-drop m w)
 
-whole_window : (w : List ℕ) → length w ≡ 16 → span w 0 16 ≡ w
-whole_window w l = take_all 16 w (omega arith)
+-- one window, and the rounds over the n words behind it
+next_window : (t n : ℕ) (s x y : State) (w v : List ℕ) → length w ≡ 16 → v ≡ window w → x ≡ rounds t s w → y ≡ rounds (t + 16) x (schedule v n) → y ≡ rounds t s (schedule w (16 + n))
+next_window t n s x y w v l e f g =
+    g
+    ∙ ap (λ r. rounds (t + 16) r (schedule v n)) f
+    ∙ ap (λ k. rounds (t + k) (rounds t s w) (schedule v n)) (sym l)
+    ∙ sym (rounds_append t s w (schedule v n))
+    ∙ ap (λ u. rounds t s (w ++ schedule u n)) e
+    ∙ ap (rounds t s) (sym (schedule_shift w n l))
 
 -- all rounds, window by window
 pub all_rounds : (s x0 x1 x2 x3 x4 x5 x6 x7 : State) (w0 w1 w2 w3 w4 : List ℕ) → length w0 ≡ 16
     → w1 ≡ window w0 → w2 ≡ window w1 → w3 ≡ window w2 → w4 ≡ window w3
-    → x0 ≡ fold_l choosing s (span w0 0 16) → x1 ≡ fold_l choosing x0 (span w1 0 4) → x2 ≡ fold_l (parting 0x6ed9eba1) x1 (span w1 4 16)
-    → x3 ≡ fold_l (parting 0x6ed9eba1) x2 (span w2 0 8) → x4 ≡ fold_l majoring x3 (span w2 8 16)
-    → x5 ≡ fold_l majoring x4 (span w3 0 12) → x6 ≡ fold_l (parting 0xca62c1d6) x5 (span w3 12 16) → x7 ≡ fold_l (parting 0xca62c1d6) x6 (span w4 0 16)
+    → x0 ≡ fold choosing s w0 → x1 ≡ fold choosing x0 (take 4 w1) → x2 ≡ fold (parting 0x6ed9eba1) x1 (take 12 (drop 4 w1))
+    → x3 ≡ fold (parting 0x6ed9eba1) x2 (take 8 w2) → x4 ≡ fold majoring x3 (take 8 (drop 8 w2))
+    → x5 ≡ fold majoring x4 (take 12 w3) → x6 ≡ fold (parting 0xca62c1d6) x5 (take 4 (drop 12 w3)) → x7 ≡ fold (parting 0xca62c1d6) x6 w4
     → x7 ≡ rounds 0 s (schedule w0 64)
 all_rounds s x0 x1 x2 x3 x4 x5 x6 x7 w0 w1 w2 w3 w4 l0 e1 e2 e3 e4 f0 f1 f2 f3 f4 f5 f6 f7 =
     let l1 : length w1 ≡ 16 = ap length e1 ∙ length_window w0 l0 in
     let l2 : length w2 ≡ 16 = ap length e2 ∙ length_window w1 l1 in
     let l3 : length w3 ≡ 16 = ap length e3 ∙ length_window w2 l2 in
     let l4 : length w4 ≡ 16 = ap length e4 ∙ length_window w3 l3 in
-    let g0 : x0 ≡ rounds 0 s w0 = f0 ∙ by_choose 0 s (span w0 0 16) (omega (arith, length_span w0 0 16 (omega arith))) ∙ ap (rounds 0 s) (whole_window w0 l0) in
-    let g1 : x1 ≡ rounds 16 x0 (span w1 0 4) = f1 ∙ by_choose 16 x0 (span w1 0 4) (omega (arith, length_span w1 0 4 (omega arith))) in
-    let g2 : x2 ≡ rounds 20 x1 (span w1 4 16) = f2 ∙ by_first 20 x1 (span w1 4 16) (omega arith) (omega (arith, length_span w1 4 16 (omega arith))) in
-    let h1 : x2 ≡ rounds 16 x0 w1 = g2 ∙ ap (λ x. rounds 20 x (span w1 4 16)) g1 ∙ split_window 16 x0 w1 4 l1 (omega arith) in
-    let g3 : x3 ≡ rounds 32 x2 (span w2 0 8) = f3 ∙ by_first 32 x2 (span w2 0 8) (omega arith) (omega (arith, length_span w2 0 8 (omega arith))) in
-    let g4 : x4 ≡ rounds 40 x3 (span w2 8 16) = f4 ∙ by_majority 40 x3 (span w2 8 16) (omega arith) (omega (arith, length_span w2 8 16 (omega arith))) in
-    let h2 : x4 ≡ rounds 32 x2 w2 = g4 ∙ ap (λ x. rounds 40 x (span w2 8 16)) g3 ∙ split_window 32 x2 w2 8 l2 (omega arith) in
-    let g5 : x5 ≡ rounds 48 x4 (span w3 0 12) = f5 ∙ by_majority 48 x4 (span w3 0 12) (omega arith) (omega (arith, length_span w3 0 12 (omega arith))) in
-    let g6 : x6 ≡ rounds 60 x5 (span w3 12 16) = f6 ∙ by_second 60 x5 (span w3 12 16) (omega arith) (omega (arith, length_span w3 12 16 (omega arith))) in
-    let h3 : x6 ≡ rounds 48 x4 w3 = g6 ∙ ap (λ x. rounds 60 x (span w3 12 16)) g5 ∙ split_window 48 x4 w3 12 l3 (omega arith) in
-    let h4 : x7 ≡ rounds 64 x6 w4 = f7 ∙ by_second 64 x6 (span w4 0 16) (omega arith) (omega (arith, length_span w4 0 16 (omega arith))) ∙ ap (rounds 64 x6) (whole_window w4 l4) in
-    let j3 : rounds 48 x4 (schedule w3 16) ≡ x7 = ap (rounds 48 x4) (schedule_shift w3 0 l3 ∙ ap (λ t. w3 ++ t) (schedule_none (window w3) ∙ sym e4)) ∙ rounds_append 48 x4 w3 w4 ∙ ap (λ n. rounds (48 + n) (rounds 48 x4 w3) w4) l3 ∙ ap (λ x. rounds 64 x w4) (sym h3) ∙ sym h4 in
-    let j2 : rounds 32 x2 (schedule w2 32) ≡ x7 = ap (rounds 32 x2) (schedule_shift w2 16 l2 ∙ ap (λ t. w2 ++ schedule t 16) (sym e3)) ∙ rounds_append 32 x2 w2 (schedule w3 16) ∙ ap (λ n. rounds (32 + n) (rounds 32 x2 w2) (schedule w3 16)) l2 ∙ ap (λ x. rounds 48 x (schedule w3 16)) (sym h2) ∙ j3 in
-    let j1 : rounds 16 x0 (schedule w1 48) ≡ x7 = ap (rounds 16 x0) (schedule_shift w1 32 l1 ∙ ap (λ t. w1 ++ schedule t 32) (sym e2)) ∙ rounds_append 16 x0 w1 (schedule w2 32) ∙ ap (λ n. rounds (16 + n) (rounds 16 x0 w1) (schedule w2 32)) l1 ∙ ap (λ x. rounds 32 x (schedule w2 32)) (sym h1) ∙ j2 in
-    sym (ap (rounds 0 s) (schedule_shift w0 48 l0 ∙ ap (λ t. w0 ++ schedule t 48) (sym e1)) ∙ rounds_append 0 s w0 (schedule w1 48) ∙ ap (λ n. rounds (0 + n) (rounds 0 s w0) (schedule w1 48)) l0 ∙ ap (λ x. rounds 16 x (schedule w1 48)) (sym g0) ∙ j1)
+    let within : (n : ℕ) (w : List ℕ) → length (take n w) ≤ n = λ n w. omega (arith, length-take n w) in
+    let h0 : x0 ≡ rounds 0 s w0 = f0 ∙ by_choose 0 s w0 (omega arith) in
+    let h1 : x2 ≡ rounds 16 x0 w1 =
+    split_window 16 4 x0 x1 x2 w1 l1 (omega arith)
+    (f1 ∙ by_choose 16 x0 (take 4 w1) (omega (arith, within 4 w1)))
+    (f2 ∙ by_first 20 x1 (take 12 (drop 4 w1)) (omega arith) (omega (arith, within 12 (drop 4 w1)))) in
+    let h2 : x4 ≡ rounds 32 x2 w2 =
+    split_window 32 8 x2 x3 x4 w2 l2 (omega arith)
+    (f3 ∙ by_first 32 x2 (take 8 w2) (omega arith) (omega (arith, within 8 w2)))
+    (f4 ∙ by_majority 40 x3 (take 8 (drop 8 w2)) (omega arith) (omega (arith, within 8 (drop 8 w2)))) in
+    let h3 : x6 ≡ rounds 48 x4 w3 =
+    split_window 48 12 x4 x5 x6 w3 l3 (omega arith)
+    (f5 ∙ by_majority 48 x4 (take 12 w3) (omega arith) (omega (arith, within 12 w3)))
+    (f6 ∙ by_second 60 x5 (take 4 (drop 12 w3)) (omega arith) (omega (arith, within 4 (drop 12 w3)))) in
+    let h4 : x7 ≡ rounds 64 x6 (schedule w4 0) = f7 ∙ by_second 64 x6 w4 (omega arith) (omega arith) ∙ ap (rounds 64 x6) (sym (schedule_none w4)) in
+    next_window 0 48 s x0 x7 w0 w1 l0 e1 h0 (next_window 16 32 x0 x2 x7 w1 w2 l1 e2 h1 (next_window 32 16 x2 x4 x7 w2 w3 l2 e3 h2 (next_window 48 0 x4 x6 x7 w3 w4 l3 e4 h3 h4)))
 
 pub next_rolled : (w v : List ℕ) (i : ℕ) → length w ≡ 16 → i < 16 → v ≡ Rolled w i
     → rotl 1 (bit_xor (bit_xor (bit_xor (get_or v ((i + 13) % 16) 0) (get_or v ((i + 8) % 16) 0)) (get_or v ((i + 2) % 16) 0)) (get_or v i 0)) ≡ next_word (schedule w i) i

@@ -1,5 +1,5 @@
 -- Rounds of one kind, and windows of the schedule: how the code goes about SHA-1.
-use Rattle.std.specs.Prelude.{ℕ, ◌-◌, List, take, drop}
+use Rattle.std.specs.Prelude.{ℕ, List, drop}
 use Rattle.digests.specs.declared.sha1.rounds.State.{State}
 use Rattle.digests.specs.Sha.{add, rotl, ch, parity, maj, schedule}
 
@@ -22,10 +22,6 @@ parting k s w = turned k (parity s.b s.c s.d) s w
 
 abbrev pub majoring : State → ℕ → State
 majoring s w = turned 0x8f1bbcdc (maj s.b s.c s.d) s w
-
--- the words i .. j of a window
-abbrev pub span : List ℕ → ℕ → ℕ → List ℕ
-span w i j = take (j - i) (drop i w)
 
 -- the 16 words of a schedule after 16 others
 abbrev pub window : List ℕ → List ℕ

@@ -1,6 +1,7 @@
-ghost use Rattle.std.specs.Prelude.{◌≡◌, ◌%◌, sum};
+ghost use Rattle.std.specs.Prelude.{◌≡◌, ◌%◌, sum, refl};
 ghost use Rattle.digests.specs.Sums.{byte_sum};
-ghost use Rattle.std.proofs.Common.{rules};
+ghost use Rattle.std.proofs.Common.{lit≤};
+ghost use Rattle.digests.specs.Octets.{sum_octets};
 
 use crate::digest::Digest;
 
@@ -13,34 +14,26 @@ pub struct ByteSum;
 fn sum_of(s: &[u8]) -> u8
     ensures { result ≡ sum s.now % 256 }
 {
-    let mut t = 0u8;
-    for b in s {
-        t = t.wrapping_add(*b);
-    }
-    t
+    s.iter().fold(0, |t, b| t.wrapping_add(*b))
 }
 
 impl Digest for ByteSum {
     const LEN: usize = 1;
 
+    ghost LEN = { 1 };
+
     ghost hash = { byte_sum };
 
-    ghost width = { 1 };
+    ghost some = { lit≤ tt };
 
-    ghost some = { Prim.search rules };
+    ghost short = { lit≤ tt };
 
-    ghost short = { Prim.search rules };
+    ghost exact = { λ _. refl };
 
-    ghost exact = { Prim.search rules };
-
-    ghost octets = { Prim.search rules };
-
-    fn size() -> usize {
-        Self::LEN
-    }
+    ghost octets = { sum_octets };
 
     fn digest(&self, a: &[u8], b: &[u8], out: &mut [u8; 255]) -> usize {
         out[0] = sum_of(a).wrapping_add(sum_of(b));
-        Self::size()
+        Self::LEN
     }
 }

@@ -2,8 +2,8 @@ ghost use Rattle.std.specs.Prelude.{◌≡◌, ◌+◌, ◌≤◌, true, ◌++�
 ghost use Rattle.digests.specs.Examples.{Sha1Examples};
 ghost use Rattle.digests.specs.Sha.{word, ended, sha1 as sha1_of};
 ghost use Rattle.std.proofs.Math.Seq.{paste};
+ghost use Rattle.std.proofs.Common.{lit≤};
 ghost use Rattle.digests.specs.Octets.{sha1_length, sha1_octets};
-ghost use Rattle.std.proofs.Common.{rules};
 
 mod blocks;
 mod rounds;
@@ -45,25 +45,21 @@ fn put_digest(out: &mut [u8; 255], a: &[u8], b: &[u8])
 impl Digest for Sha1 {
     const LEN: usize = 20;
 
+    ghost LEN = { 20 };
+
     ghost hash = { sha1_of };
 
-    ghost width = { 20 };
+    ghost some = { lit≤ tt };
 
-    ghost some = { Prim.search rules };
-
-    ghost short = { Prim.search rules };
+    ghost short = { lit≤ tt };
 
     ghost exact = { sha1_length };
 
     ghost octets = { sha1_octets };
 
-    fn size() -> usize {
-        Self::LEN
-    }
-
     fn digest(&self, a: &[u8], b: &[u8], out: &mut [u8; 255]) -> usize {
         put_digest(out, a, b);
-        Self::size()
+        Self::LEN
     }
 }
 

@@ -155,6 +155,6 @@ fn sum_of_two_parts(rt: HostRuntime) -> Result<(), Fail> {
 
 #[test]
 fn sizes(rt: HostRuntime) {
-    assert_eq!(rt; ByteSum::size(), 1);
-    assert_eq!(rt; Sha1::size(), 20);
+    assert_eq!(rt; ByteSum::LEN, 1);
+    assert_eq!(rt; Sha1::LEN, 20);
 }

@@ -1,7 +1,6 @@
 // The rounds of SHA-1 on one block. The schedule is kept as a window of 16 words at a time.
-ghost use Rattle.std.specs.Simd.Lanes.{fold_l};
-ghost use Rattle.std.specs.Prelude.{◌≡◌, ◌≤◌};
-ghost use Rattle.digests.specs.Runs.{turned, choosing, parting, majoring, span, window};
+ghost use Rattle.std.specs.Prelude.{◌≡◌};
+ghost use Rattle.digests.specs.Runs.{turned, choosing, parting, majoring, window};
 ghost use Rattle.digests.specs.Sha.{schedule, rounds as rounds_from, compressed};
 
 // The constants of the rounds with Ch, of the first rounds with Parity, of those with Maj, and of the last with Parity.
@@ -53,60 +52,24 @@ fn turn(s: State, f: u32, k: u32, w: u32) -> State
 }
 
 // A round with Ch.
-fn choose(s: State, w: u32) -> State
-    ensures { result ≡ choosing s w }
+fn choose(s: State, w: &u32) -> State
+    ensures { result ≡ choosing s w.now }
 {
-    turn(s, (s.b & s.c) ^ (!s.b & s.d), K_CH, w)
+    turn(s, (s.b & s.c) ^ (!s.b & s.d), K_CH, *w)
 }
 
-// A round with Parity, and the constant k.
-fn parity(s: State, k: u32, w: u32) -> State
-    ensures { result ≡ parting k s w }
+// A round with Parity, and the constant K.
+fn parity<const K: u32>(s: State, w: &u32) -> State
+    ensures { result ≡ parting K s w.now }
 {
-    turn(s, s.b ^ s.c ^ s.d, k, w)
+    turn(s, s.b ^ s.c ^ s.d, K, *w)
 }
 
 // A round with Maj.
-fn majority(s: State, w: u32) -> State
-    ensures { result ≡ majoring s w }
+fn majority(s: State, w: &u32) -> State
+    ensures { result ≡ majoring s w.now }
 {
-    turn(s, (s.b & s.c) ^ (s.b & s.d) ^ (s.c & s.d), K_MAJ, w)
-}
-
-// Rounds with Ch over the words from..to of a window.
-fn run_choose(s: State, w: &[u32; 16], from: usize, to: usize) -> State
-    requires { (from ≤ to) × (to ≤ 16) }
-    ensures { result ≡ fold_l choosing s (span w.now from to) }
-{
-    let mut x = s;
-    for t in from..to {
-        x = choose(x, w[t]);
-    }
-    x
-}
-
-// Rounds with Parity over the words from..to of a window.
-fn run_parity(s: State, k: u32, w: &[u32; 16], from: usize, to: usize) -> State
-    requires { (from ≤ to) × (to ≤ 16) }
-    ensures { result ≡ fold_l (parting k) s (span w.now from to) }
-{
-    let mut x = s;
-    for t in from..to {
-        x = parity(x, k, w[t]);
-    }
-    x
-}
-
-// Rounds with Maj over the words from..to of a window.
-fn run_majority(s: State, w: &[u32; 16], from: usize, to: usize) -> State
-    requires { (from ≤ to) × (to ≤ 16) }
-    ensures { result ≡ fold_l majoring s (span w.now from to) }
-{
-    let mut x = s;
-    for t in from..to {
-        x = majority(x, w[t]);
-    }
-    x
+    turn(s, (s.b & s.c) ^ (s.b & s.d) ^ (s.c & s.d), K_MAJ, *w)
 }
 
 // The 16 words of the schedule after the 16 at hand, in their place.
@@ -114,7 +77,8 @@ fn advance(w: [u32; 16]) -> [u32; 16]
     ensures { result ≡ window w }
 {
     let mut v = w;
-    for i in 0..16usize {
+    // Kept: a word is made of words that the loop wrote before it, at four fixed distances, which no iterator hands out.
+    for i in 0..16 {
         v[i] = (v[(i + 13) % 16] ^ v[(i + 8) % 16] ^ v[(i + 2) % 16] ^ v[i]).rotate_left(1);
     }
     v
@@ -124,20 +88,17 @@ fn advance(w: [u32; 16]) -> [u32; 16]
 fn run_all(s: State, block: &[u32; 16]) -> State
     ensures { result ≡ rounds_from 0 s (schedule block.now 64) }
 {
-    let w0 = *block;
-    let x0 = run_choose(s, &w0, 0, 16);
-    let w1 = advance(w0);
-    let x1 = run_choose(x0, &w1, 0, 4);
-    let x2 = run_parity(x1, K_PARITY, &w1, 4, 16);
+    let x0 = block.iter().fold(s, choose);
+    let w1 = advance(*block);
+    let x1 = w1[..4].iter().fold(x0, choose);
+    let x2 = w1[4..].iter().fold(x1, parity::<K_PARITY>);
     let w2 = advance(w1);
-    let x3 = run_parity(x2, K_PARITY, &w2, 0, 8);
-    let x4 = run_majority(x3, &w2, 8, 16);
+    let x3 = w2[..8].iter().fold(x2, parity::<K_PARITY>);
+    let x4 = w2[8..].iter().fold(x3, majority);
     let w3 = advance(w2);
-    let x5 = run_majority(x4, &w3, 0, 12);
-    let x6 = run_parity(x5, K_LAST, &w3, 12, 16);
-    let w4 = advance(w3);
-    let x7 = run_parity(x6, K_LAST, &w4, 0, 16);
-    x7
+    let x5 = w3[..12].iter().fold(x4, majority);
+    let x6 = w3[12..].iter().fold(x5, parity::<K_LAST>);
+    advance(w3).iter().fold(x6, parity::<K_LAST>)
 }
 
 // The hash value after one block.

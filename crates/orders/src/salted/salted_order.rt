@@ -21,8 +21,8 @@ const KEEPS_FAMILIES: bool = false;
 impl<D: Digest + Drop> Salted<D> {
     // Step after step, from octets, to the front of a buffer; the length of the last result.
     fn iterate(&self, octets: &[u8], out: &mut [u8; MAX_NAME]) -> usize
-        ensures value { result ≡ D.Digest.width }
-        ensures buffer { out.new ≡ iterated D.Digest.hash (salt_of self.now) octets.now (iterations_of self.now) ++ drop D.Digest.width out.old }
+        ensures value { result ≡ D.Digest.LEN }
+        ensures buffer { out.new ≡ iterated D.Digest.hash (salt_of self.now) octets.now (iterations_of self.now) ++ drop D.Digest.LEN out.old }
     {
         let salt = self.salt();
         let mut n = self.digest.digest(octets, salt, out);
@@ -37,7 +37,7 @@ impl<D: Digest + Drop> Salted<D> {
 impl<D: Digest + Drop> Order for Salted<D> {
     ghost place = { λ o n. iterated D.Digest.hash (salt_of o) (wire n) (iterations_of o) };
 
-    ghost placed = { λ _ p. (length p == D.Digest.width) };
+    ghost placed = { λ _ p. (length p == D.Digest.LEN) };
 
     ghost compared = { λ _ a b. by_octets a b };
 
@@ -45,7 +45,7 @@ impl<D: Digest + Drop> Order for Salted<D> {
 
     ghost beneath = { λ _ _ _. false };
 
-    ghost places = { λ o n h. eq-eqb _ _ (iterated_length D.Digest.hash D.Digest.width D.Digest.exact (salt_of o) (wire n) (iterations_of o)) };
+    ghost places = { λ o n h. eq-eqb _ _ (iterated_length D.Digest.hash D.Digest.LEN D.Digest.exact (salt_of o) (wire n) (iterations_of o)) };
 
     ghost short = { first_of (Prim.search rules, Prim.grind (arith, Self.row.coded.inj)) };
 
@@ -54,7 +54,7 @@ impl<D: Digest + Drop> Order for Salted<D> {
     ghost family = { first_of (Prim.search rules, Prim.grind (arith, Self.row.coded.inj)) };
 
     fn is_place(&self, octets: &[u8]) -> bool {
-        octets.len() == D::size()
+        octets.len() == D::LEN
     }
 
     fn compare(&self, a: &[u8], b: &[u8]) -> Ordering {

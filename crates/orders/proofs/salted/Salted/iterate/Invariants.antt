@@ -4,4 +4,4 @@ use Rattle.orders.specs.Hashes.{Step}
 use Rattle.orders.proofs.salted.Salted.iterate.Given as goal
 
 abbrev pub invariant-loop : goal.invariant-loop
-invariant-loop g l = (l.n ≡ g.D.Digest.width) × Step g.D.Digest.hash g.D.Digest.width (salt_of l.self) l.octets l.initial.out l.counter l.out × (length l.out ≡ 255)
+invariant-loop g l = (l.n ≡ g.D.Digest.LEN) × Step g.D.Digest.hash g.D.Digest.LEN (salt_of l.self) l.octets l.initial.out l.counter l.out × (length l.out ≡ 255)
