@@ -2,6 +2,7 @@
 -- the root is the empty list. `wire` and `parse` go between names and octets.
 use Rattle.std.specs.Prelude.{◌≡◌, ℕ, zero, suc, ◌+◌, ◌-◌, Bool, true, false, cond, ◌&&◌, List, [], ◌∷◌, ◌++◌, length, take, drop, Some, None, Option, ◌==◌, nat_eq, nat_le}
 use Rattle.std.specs.Cmp.Lexicographic.{pointwise}
+use Rattle.std.specs.List.{list_all}
 
 abbrev pub Octets : Type 0
 Octets = List ℕ
@@ -60,11 +61,11 @@ labels_of s = (split 0 s).1
 abbrev pub parse : Octets → Option Labels
 parse s = cond (is_name s) (Some (labels_of s)) None
 
--- a label of a name: 1 to 63 octets, in lower case
+-- no octet is a letter in upper case
 abbrev pub lower_octets : Octets → Bool
-lower_octets [] = true
-lower_octets (x ∷ xs) = lower x == x && lower_octets xs
+lower_octets s = list_all (λ x. lower x == x) s
 
+-- a label of a name: 1 to 63 octets, in lower case
 abbrev pub is_label : Label → Bool
 is_label l = nat_le 1 (length l) && (nat_le (length l) 63 && lower_octets l)
 

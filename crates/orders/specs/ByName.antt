@@ -1,24 +1,20 @@
 -- Canonical order of wire forms in lower case.
-use Rattle.std.specs.Prelude.{◌≡◌, ℕ, ◌+◌, ◌<◌, ◌≤◌, true, false, cond, not, ◌&&◌, map, length, drop, Some, None, Ok, ◌==◌, nat_le, slice_index, refl}
-use Rattle.std.proofs.Common.{sym, ap, ap₂, ◌∙◌, arith}
-use Rattle.std.proofs.lemmas.Bool.{cases_Bool}
-use Rattle.std.proofs.lemmas.List.{at_drop_more, at_drop_all}
-use Rattle.std.specs.Char.{is_ascii_uppercase}
-use Rattle.std.proofs.lemmas.Bool.Decides.{nat_tests}
+use Rattle.std.specs.Prelude.{◌≡◌, ◌≤◌, true, map, length, refl}
+use Rattle.std.proofs.Common.{sym, ap, ap₂, ◌∙◌}
+use Rattle.std.proofs.lemmas.Bool.{and_parts}
 use Rattle.names.proofs.Ordered.{canonical_total, families}
-use Rattle.names.proofs.Reader.{lower_octets_map, was_read}
+use Rattle.names.proofs.Reader.{lower_octets_map}
 use Rattle.names.proofs.Undo.{map_lower_octets, wire_labels, name_short, name_wire, labels_wire, labels_parts}
 use Rattle.names.specs.Canonical.{canonical, below}
-use Rattle.names.specs.Wire.{Octets, Labels, is_name, is_labels, labels_of, lower_octets, lower, wire, written, Wrote}
-use Rattle.orders.specs.Places.{is_lower_name, by_names, below_names, place_written}
-use Rattle.names.specs.Refusals.{of_name}
+use Rattle.names.specs.Wire.{Octets, Labels, is_name, is_labels, labels_of, lower_octets, lower, wire}
+use Rattle.orders.specs.Places.{is_lower_name, by_names, below_names}
 use Rattle.orders.specs.Ring.{Ring, Family}
 
 is_name_lem : (p : Octets) → is_lower_name p ≡ true → is_name p ≡ true
-is_name_lem p h = grind (arith, nat_tests)
+is_name_lem p h = (and_parts (is_name p) (lower_octets p) h).0
 
 is_lower : (p : Octets) → is_lower_name p ≡ true → lower_octets p ≡ true
-is_lower p h = grind (arith, nat_tests)
+is_lower p h = (and_parts (is_name p) (lower_octets p) h).1
 
 back : (n : Labels) → is_labels n ≡ true → labels_of (wire n) ≡ n
 back n h = labels_wire n (labels_parts n h)
@@ -65,34 +61,3 @@ names_family = record {
   first = λ n m h k b. by_wire n m h k ∙ families.below_greater m n b;
   between = λ n p m h j k b e f. families.between_below n p m b (sym (by_wire n p h j) ∙ e) (sym (by_wire p m j k) ∙ f);
 }
-
--- one octet after the other
-upper_lower : (x : ℕ) → (lower x == x) ≡ not (is_ascii_uppercase x)
-upper_lower x = let a = cases_Bool (nat_le 65 x) in let b = cases_Bool (nat_le x 90) in let c = cases_Bool (lower x == x) in grind (arith, nat_tests)
-
-pub lower_step : (s : Octets) (i : ℕ) → i < length s → lower_octets (drop i s) ≡ (not (is_ascii_uppercase (slice_index s i)) && lower_octets (drop (i + 1) s))
-lower_step s i h = at_drop_more lower_octets s i 0 h ∙ ap (λ b. b && lower_octets (drop (i + 1) s)) (upper_lower (slice_index s i))
-
-pub lower_miss : (s : Octets) (i : ℕ) → i < length s → is_ascii_uppercase (slice_index s i) ≡ true → false ≡ lower_octets (drop i s)
-lower_miss s i h e = sym (lower_step s i h ∙ rw e refl)
-
-pub lower_hit : (s : Octets) (i : ℕ) → i < length s → is_ascii_uppercase (slice_index s i) ≡ false → lower_octets (drop (i + 1) s) ≡ lower_octets (drop i s)
-lower_hit s i h e = sym (lower_step s i h ∙ rw e refl)
-
-pub lower_end : (s : Octets) (i : ℕ) → length s ≤ i → true ≡ lower_octets (drop i s)
-lower_end s i h = sym (at_drop_all lower_octets s i h)
-
--- what was written is the name's place
-pub record PlaceWritten (s out after : Octets) (r : ℕ) : Type 0 where
-  pub value : Ok r ≡ of_name s (λ n. Ok (length (wire n)))
-  pub buffer : after ≡ place_written wire s out
-
-pub place_written_lem : (s u out after : Octets) (r : ℕ) → Some u ≡ cond (is_name s) (Some s) None → (is_name u ≡ true → Wrote (wire (labels_of u)) out r after) → PlaceWritten s out after r
-place_written_lem s u out after r e f =
-    let k = (was_read s u e).0 in
-    let v = (was_read s u e).1 in
-    let w = f (ap is_name v ∙ k) in
-    record {
-      value = rw k (ap Ok (w.count ∙ ap (λ y. length (wire (labels_of y))) v));
-      buffer = w.buffer ∙ ap (λ y. written (wire (labels_of y)) out) v ∙ sym (rw k refl);
-    }

@@ -14,12 +14,7 @@ const KEEPS_FAMILIES: bool = true;
 fn is_lower(octets: &[u8]) -> bool
     ensures { result ≡ lower_octets octets.now }
 {
-    for x in octets {
-        if x.is_ascii_uppercase() {
-            return false;
-        }
-    }
-    true
+    octets.iter().all(|x| !x.is_ascii_uppercase())
 }
 
 // Canonical order (RFC 4034 section 6.1). A name's place is its wire form in lower case.
@@ -50,10 +45,10 @@ impl Order for Canonical {
     }
 
     fn compare(&self, a: &[u8], b: &[u8]) -> Ordering {
-        match (Name::read(a), Name::read(b)) {
-            (Ok(a), Ok(b)) => a.compare(&b),
-            _ => Ordering::Equal,
-        }
+        let (Ok(a), Ok(b)) = (Name::read(a), Name::read(b)) else {
+            return Ordering::Equal;
+        };
+        a.cmp(&b)
     }
 
     fn keeps_families(&self) -> bool {
@@ -61,10 +56,10 @@ impl Order for Canonical {
     }
 
     fn is_below(&self, a: &[u8], b: &[u8]) -> bool {
-        match (Name::read(a), Name::read(b)) {
-            (Ok(a), Ok(b)) => a.is_below(&b),
-            _ => false,
-        }
+        let (Ok(a), Ok(b)) = (Name::read(a), Name::read(b)) else {
+            return false;
+        };
+        a.is_below(&b)
     }
 
     fn write_place(&self, name: &[u8], out: &mut [u8; MAX_NAME]) -> Result<usize, Refusal> {

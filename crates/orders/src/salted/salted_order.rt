@@ -3,11 +3,10 @@ ghost use Rattle.names.specs.Canonical.{by_octets};
 ghost use Rattle.names.specs.Wire.{wire};
 ghost use Rattle.orders.specs.Places.{iterated};
 ghost use Rattle.orders.specs.Salts.{salt_of, iterations_of};
-ghost use Rattle.std.proofs.lemmas.Bool.{eq-eqb};
-ghost use Rattle.orders.specs.Hashes.{iterated_length};
+ghost use Rattle.std.proofs.lemmas.Bool.{eq-eqb, false≢true};
+ghost use Rattle.orders.specs.Hashes.{iterated_length, as_long_at_most};
 ghost use Rattle.names.proofs.Ordered.{octets_total};
 ghost use Rattle.orders.specs.Strings.{total_ring};
-ghost use Rattle.std.proofs.Common.{rules, arith};
 
 use crate::order::Order;
 use crate::salted::Salted;
@@ -28,7 +27,7 @@ impl<D: Digest + Drop> Salted<D> {
         let mut n = self.digest.digest(octets, salt, out);
         for _ in 0..self.iterations {
             let last = *out;
-            n = self.digest.digest(&last[0..n], salt, out);
+            n = self.digest.digest(&last[..n], salt, out);
         }
         n
     }
@@ -47,11 +46,11 @@ impl<D: Digest + Drop> Order for Salted<D> {
 
     ghost places = { λ o n h. eq-eqb _ _ (iterated_length D.Digest.hash D.Digest.LEN D.Digest.exact (salt_of o) (wire n) (iterations_of o)) };
 
-    ghost short = { first_of (Prim.search rules, Prim.grind (arith, Self.row.coded.inj)) };
+    ghost short = { λ o p h. as_long_at_most p _ h D.Digest.short };
 
     ghost ring = { λ o. total_ring _ by_octets octets_total };
 
-    ghost family = { first_of (Prim.search rules, Prim.grind (arith, Self.row.coded.inj)) };
+    ghost family = { λ o h. absurd (false≢true h) };
 
     fn is_place(&self, octets: &[u8]) -> bool {
         octets.len() == D::LEN
@@ -73,6 +72,6 @@ impl<D: Digest + Drop> Order for Salted<D> {
         let name = Name::read(name)?;
         let mut lower = [0; MAX_NAME];
         let n = name.write_lower(&mut lower);
-        Ok(self.iterate(&lower[0..n], out))
+        Ok(self.iterate(&lower[..n], out))
     }
 }

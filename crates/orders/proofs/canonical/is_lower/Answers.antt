@@ -1,12 +1,9 @@
-use Rattle.std.proofs.Common.{sym, ◌∙◌, arith}
-use Rattle.orders.specs.ByName.{lower_miss, lower_hit, lower_end}
+use Rattle.std.proofs.Common.{eqb, rules}
+use Rattle.std.proofs.lemmas.Iterator.{YieldsList-from_slice}
+use Rattle.std.proofs.lemmas.Iterator.Search.{all_from_yields_List}
+use Rattle.names.specs.Wire.{lower}
+use Rattle.orders.proofs.Lower.{upper_lower}
 use Rattle.orders.proofs.canonical.is_lower.Goals as goal
 
-pub returns-then-is_ascii_uppercase : goal.returns-then-is_ascii_uppercase
-returns-then-is_ascii_uppercase c = lower_miss c.args.octets.now c.loop-x.x-index (omega arith) (sym c.if-is_ascii_uppercase.ensures.value) ∙ c.loop-x.invariant
-
-pub loop-x-preserved : goal.loop-x-preserved
-loop-x-preserved c = lower_hit c.args.octets.now c.loop-x.x-index (omega arith) (sym c.if-is_ascii_uppercase.ensures.value) ∙ c.loop-x.invariant
-
 pub returns : goal.returns
-returns c = lower_end c.args.octets.now c.loop-x.x-index (omega arith) ∙ c.loop-x.invariant
+returns c = all_from_yields_List (λ x. eqb (lower x) x) c.all.new.self _ _ c.all.ensures.ran (YieldsList-from_slice c.args.octets.now (search rules)) (λ x b q e. search (rules, upper_lower))

@@ -1,4 +1,4 @@
-use Rattle.orders.specs.ByName.{place_written_lem}
+use Rattle.orders.proofs.Written.{place_written_lem}
 use Rattle.orders.proofs.canonical.CanonicalOrder.write_place.Goals as goal
 
 pub returns : goal.returns

@@ -1,6 +1,6 @@
 use Rattle.std.proofs.Common.{◌≡◌, length}
 use Rattle.orders.specs.Salts.{salt_of}
-use Rattle.orders.specs.Hashes.{Step}
+use Rattle.orders.proofs.Hashing.{Step}
 use Rattle.orders.proofs.salted.Salted.iterate.Given as goal
 
 abbrev pub invariant-loop : goal.invariant-loop

@@ -1,4 +1,4 @@
-use Rattle.orders.specs.Hashes.{copied}
+use Rattle.orders.proofs.Hashing.{copied}
 use Rattle.orders.proofs.salted.Salted.new.Goals as goal
 
 pub returns : goal.returns

@@ -1,0 +1,3 @@
+mod Hashing
+mod Written
+mod Lower
