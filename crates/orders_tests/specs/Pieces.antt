@@ -10,11 +10,12 @@ use Rattle.std.proofs.lemmas.Bool.{false≢true, cases_Bool, le-leb}
 use Rattle.std.proofs.lemmas.Bool.Decides.{nat_tests, Decides-eqb}
 use Rattle.std.specs.Cmp.Lexicographic.{pointwise}
 use Rattle.std.specs.Char.{to_ascii_lowercase as ascii_lower}
-use Rattle.names.proofs.Ordered.{prefix_between, below_split, below_join}
+use Rattle.std.specs.Ordering.{nat_cmp}
+use Rattle.names.proofs.Ordered.{numbers_total, prefix_between, below_split, below_join}
+use Rattle.names.proofs.Slices.{ascii_lower_all}
 use Rattle.names.proofs.Reader.{first_parts, name_first, labels_first, labels_none}
 use Rattle.names.proofs.Undo.{name_wire, name_short, wire_labels}
-use Rattle.names.specs.Canonical.{by_number, by_octets, below}
-use Rattle.names.specs.Laws.{StrictTotal}
+use Rattle.names.specs.Canonical.{by_octets, below}
 use Rattle.names.specs.Wire.{Octets, Labels, is_name, is_labels, labels_of, first_label, lower, wire, written}
 use Rattle.orders.specs.Ring.{Family}
 use Rattle.orders_tests.specs.Reversal.{pieces, from_root, goes_on}
@@ -41,6 +42,9 @@ from_root_place n h =
     let e = from_root_length n in
     let s = name_short (wire n) (name_wire n h) in
     le-leb (length (from_root n)) 254 (omega arith)
+
+pub few_octets : (p : Octets) → nat_le (length p) 254 ≡ true → length p ≤ 255
+few_octets p h = grind (arith, nat_tests)
 
 one_more : (k l : Octets) (ks ls : Labels) (f : Octets) → k ≡ l → (g : Labels) × (ks ≡ ls ++ g) × (f ≡ pieces g) → (g : Labels) × (k ∷ ks ≡ l ∷ (ls ++ g)) × (f ≡ pieces g)
 one_more k l ks ls f s r = (r.0, ap₂ (λ a b. a ∷ b) s r.1, r.2)
@@ -121,15 +125,6 @@ goes_on_short [] b h = refl
 goes_on_short (x ∷ xs) [] h = absurd (omega arith)
 goes_on_short (x ∷ xs) (y ∷ ys) h = let ih = goes_on_short xs ys (omega arith) in let c = cases_Bool (x == y) in grind (arith, nat_tests)
 
-numbers_total : StrictTotal by_number
-numbers_total = record {
-  itself = λ a. grind (arith, nat_tests);
-  same = λ a b h. grind (arith, nat_tests);
-  greater = λ a b h. grind (arith, nat_tests);
-  less = λ a b h. grind (arith, nat_tests);
-  transitive = λ a b c h k. grind (arith, nat_tests);
-}
-
 goes_on_below : (n m : Labels) → goes_on (from_root n) (from_root m) ≡ below n m
 goes_on_below n m =
     ⊎_elim
@@ -157,7 +152,7 @@ reversed_family = record {
   first = λ n m h k b. let r = behind_below m n b in ap (by_octets (from_root n)) r.2 ∙ less_on (from_root n) r.0 r.1;
   between = λ n p m h j k b e f.
       let r = behind_below m n b in
-      let s = prefix_between by_number numbers_total (from_root n) (from_root p) r.0 e (sym (ap (by_octets (from_root p)) r.2) ∙ f) in
+      let s = prefix_between nat_cmp numbers_total (from_root n) (from_root p) r.0 e (sym (ap (by_octets (from_root p)) r.2) ∙ f) in
       below_behind p n s.0 s.1 s.2;
 }
 
@@ -182,10 +177,6 @@ cut s l r t u h e f g =
       short = name_short t (ap is_name f ∙ h);
     }
 
-lower_same : (l : Octets) → map ascii_lower l ≡ map lower l
-lower_same [] = refl
-lower_same (x ∷ xs) = ap₂ (λ a b. a ∷ b) (grind (arith, nat_tests)) (lower_same xs)
-
 -- one label more, with its length, in lower case
 pub step : (s l r out x p done : Octets) (a j k : ℕ) → is_name s ≡ true → Some (l, r) ≡ first_label s → length out ≡ 255 → a ≡ length r - 1 → j ≡ length l + 1 → k ≡ j → x ≡ take j s → p ≡ map ascii_lower x → written (from_root (labels_of s)) out ≡ done → (written (from_root (labels_of r)) (put_mid a k out p) ≡ done) × (length (put_mid a k out p) ≡ 255)
 step s l r out x p done a j k h e long at count same from low before =
@@ -198,7 +189,7 @@ step s l r out x p done a j k h e long at count same from low before =
     let root = from_root (labels_of r) in
     let i : a ≡ length root = omega arith in
     let u : take j s ≡ length l ∷ l = ap₂ take (count ∙ add-one (length l)) f.0 ∙ ap (λ t. length l ∷ t) (take_at l r (length l) refl) in
-    let q : p ≡ length l ∷ map lower l = low ∙ ap (map ascii_lower) (from ∙ u) ∙ lower_same (length l ∷ l) ∙ ap (λ t. t ∷ map lower l) (grind (arith, nat_tests)) in
+    let q : p ≡ length l ∷ map lower l = low ∙ ap (map ascii_lower) (from ∙ u) ∙ ascii_lower_all (length l ∷ l) ∙ ap (λ t. t ∷ map lower l) (grind (arith, nat_tests)) in
     let n : length (length l ∷ map lower l) ≡ length l + 1 = let m = length-map l lower in omega arith in
     let all : from_root (labels_of s) ≡ root ++ (length l ∷ map lower l) = ap from_root (labels_first s l r (sym e)) ∙ from_root_cons (map lower l) (labels_of r) ∙ ap (λ t. root ++ (t ∷ map lower l)) (length-map l lower) in
     let m : length (root ++ (length l ∷ map lower l)) ≡ a + k = length-append root (length l ∷ map lower l) ∙ omega arith in

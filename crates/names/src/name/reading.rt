@@ -37,8 +37,7 @@ fn is_star(label: &[u8]) -> bool
 impl<'a> Name<'a> {
     // The octets that the name was read from.
     pub fn octets(&self) -> &'a [u8]
-        ensures value { result.now ≡ octets_in self.now }
-        ensures name { is_name result.now ≡ true }
+        ensures { result.now ≡ octets_in self.now }
     {
         self.octets
     }
