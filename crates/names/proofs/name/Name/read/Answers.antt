@@ -1,16 +1,13 @@
 use Rattle.std.proofs.Common.{sym, refl, ◌∙◌, arith}
 use Rattle.std.proofs.lemmas.Bool.Decides.{nat_tests}
 use Rattle.names.specs.Wire.{is_name}
-use Rattle.names.proofs.Reader.{ends_first, ends_none, rest_shorter, only_zero}
+use Rattle.names.proofs.Reader.{ends_first, ends_none, only_zero}
 use Rattle.names.proofs.Undo.{wire_and_parse}
 use Rattle.names.proofs.name.Name.read.Goals as goal
 
 pub returns-then-octets-gt-MAX_NAME : goal.returns-then-octets-gt-MAX_NAME
 unfolding is_name
 returns-then-octets-gt-MAX_NAME c = record { octets = grind (arith, nat_tests); labels = grind (arith, nat_tests); refused = refl; undo = wire_and_parse }
-
-pub loop-rest-smaller : goal.loop-rest-smaller
-loop-rest-smaller c = rest_shorter c.loop-rest.left.now _ _ (sym c.in-Some.ensures)
 
 pub loop-rest-preserved : goal.loop-rest-preserved
 loop-rest-preserved c = sym (ends_first c.loop-rest.left.now _ _ (sym c.in-Some.ensures)) ∙ c.loop-rest.invariant
@@ -29,9 +26,5 @@ invariant_of-result c =
     let z = only_zero c.loop-rest.left.now in
     record { whole = grind (arith, nat_tests) }
 
-pub returns : goal.returns
-unfolding is_name
-returns c =
-    let e = ends_none c.loop-rest.left.now (sym c.in_default.ensures) in
-    let z = only_zero c.loop-rest.left.now in
-    record { octets = grind (arith, nat_tests); labels = grind (arith, nat_tests); refused = tt; undo = wire_and_parse }
+pub returns-clause-undo : goal.returns-clause-undo
+returns-clause-undo c = wire_and_parse

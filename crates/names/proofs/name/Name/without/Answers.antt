@@ -17,8 +17,3 @@ loop-preserved c =
     let u = up_once c.loop.counter (labels c.args.self.now) (labels c.in-Some.up) (c.in-Some.ensures.labels ∙ ap parent_of c.loop.invariant.0) in
     let a = after_more c.loop.counter (octets c.args.self.now) in
     (u, some_same _ _ c.in-Some.ensures.octets ∙ ap after_label c.loop.invariant.1 ∙ a)
-
-pub returns : goal.returns
-returns c =
-    let i = c.loop.invariant in
-    record { labels = grind arith; octets = λ k. grind arith }

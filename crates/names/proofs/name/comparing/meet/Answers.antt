@@ -2,10 +2,6 @@ use Rattle.names.specs.View.{labels}
 use Rattle.names.proofs.Steps.{level_names, level_equal, level_other}
 use Rattle.names.proofs.name.comparing.meet.Goals as goal
 
-pub meet_level-shared-requires : goal.meet_level-shared-requires
-meet_level-shared-requires c =
-    (level_names (labels c.args.a.now) (labels c.args.b.now) _ _ _ _ _ c.label_count-m.ensures.value c.label_count-n.ensures.value c.min-fewer.ensures c.without.ensures.labels c.without-2.ensures.labels).even
-
 pub returns-in-Equal : goal.returns-in-Equal
 returns-in-Equal c =
     let l = level_names (labels c.args.a.now) (labels c.args.b.now) _ _ _ _ _ c.label_count-m.ensures.value c.label_count-n.ensures.value c.min-fewer.ensures c.without.ensures.labels c.without-2.ensures.labels in

@@ -1,6 +1,6 @@
 use Rattle.std.proofs.Common.{sym, inl, inr, arith}
 use Rattle.names.specs.Wire.{labels_of}
-use Rattle.names.proofs.Reader.{labels_first, labels_none, labels_short, rest_shorter}
+use Rattle.names.proofs.Reader.{labels_first, labels_none, labels_short}
 use Rattle.names.proofs.Steps.{met_start, met_same, met_other, met_end}
 use Rattle.names.proofs.name.comparing.meet_level.Goals as goal
 
@@ -13,18 +13,12 @@ overflow_add-shared c =
     let s = labels_short c.args.a.now in
     omega arith
 
-pub loop-x-smaller-in-Equal : goal.loop-x-smaller-in-Equal
-loop-x-smaller-in-Equal c = rest_shorter c.loop-x.left.now _ _ (sym c.in-Some.ensures)
-
 pub loop-x-preserved-in-Equal : goal.loop-x-preserved-in-Equal
 loop-x-preserved-in-Equal c =
     met_same _ _ _ _ _ _ _ _ _ _ c.loop-x.invariant
     (labels_first c.loop-x.left.now _ _ (sym c.in-Some.ensures))
     (labels_first c.loop-x.right.now _ _ (sym c.in-Some-first_label.ensures))
     (sym c.in-Equal.ensures)
-
-pub loop-x-smaller : goal.loop-x-smaller
-loop-x-smaller c = rest_shorter c.loop-x.left.now _ _ (sym c.in-Some.ensures)
 
 pub loop-x-preserved : goal.loop-x-preserved
 loop-x-preserved c =
