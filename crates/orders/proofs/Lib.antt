@@ -1,3 +1,1 @@
 mod Hashing
-mod Written
-mod Lower

@@ -1,5 +1,4 @@
-use Rattle.std.proofs.Common.{◌-◌, length, take, sym, ap, ◌∙◌, arith}
-use Rattle.names.proofs.Reader.{rest_shorter}
+use Rattle.std.proofs.Common.{◌-◌, length, take, ap, ◌∙◌, arith}
 use Rattle.names.specs.View.{octets}
 use Rattle.orders_tests.specs.Pieces.{name_length, cut, step, nothing_left}
 use Rattle.orders_tests.proofs.reversed.write_reversed.Goals as goal
@@ -7,20 +6,8 @@ use Rattle.orders_tests.proofs.reversed.write_reversed.Goals as goal
 pub overflow_sub-start : goal.overflow_sub-start
 overflow_sub-start c = (cut (octets c.loop-rest.left) _ _ c.octets-octets.result.now c.octets.result.now c.loop-rest.left.whole c.in-Some.ensures c.octets-octets.ensures c.octets.ensures).some
 
-pub slice_bounds-part-count : goal.slice_bounds-part-count
-slice_bounds-part-count c = let k = (cut (octets c.loop-rest.left) _ _ c.octets-octets.result.now c.octets.result.now c.loop-rest.left.whole c.in-Some.ensures c.octets-octets.ensures c.octets.ensures).parts in omega arith
-
-pub slice_bounds-part-start : goal.slice_bounds-part-start
-slice_bounds-part-start c = let k = (cut (octets c.loop-rest.left) _ _ c.octets-octets.result.now c.octets.result.now c.loop-rest.left.whole c.in-Some.ensures c.octets-octets.ensures c.octets.ensures).parts in omega arith
-
 pub slice_bounds-part-end : goal.slice_bounds-part-end
 slice_bounds-part-end c = let k = (cut (octets c.loop-rest.left) _ _ c.octets-octets.result.now c.octets.result.now c.loop-rest.left.whole c.in-Some.ensures c.octets-octets.ensures c.octets.ensures).short in omega arith
-
-pub overflow_sub-end : goal.overflow_sub-end
-overflow_sub-end c = let k = (cut (octets c.loop-rest.left) _ _ c.octets-octets.result.now c.octets.result.now c.loop-rest.left.whole c.in-Some.ensures c.octets-octets.ensures c.octets.ensures).parts in omega arith
-
-pub loop-rest-smaller : goal.loop-rest-smaller
-loop-rest-smaller c = rest_shorter (octets c.loop-rest.left) _ _ (sym c.in-Some.ensures)
 
 pub loop-rest-preserved : goal.loop-rest-preserved
 loop-rest-preserved c =
