@@ -44,7 +44,7 @@ chunks_append (suc n) k xs ys l =
     ∙ ap (λ x. take 64 xs ∷ first_chunks 64 (n + k) x) d
     ∙ ap (λ cs. take 64 xs ∷ cs) (chunks_append n k (drop 64 xs) ys (simp length-drop (omega arith)))
 
-pub run_append : (s : State) (xs ys : List ℕ) → length xs % 64 ≡ 0 → run s (xs ++ ys) ≡ run (run s xs) ys
+run_append : (s : State) (xs ys : List ℕ) → length xs % 64 ≡ 0 → run s (xs ++ ys) ≡ run (run s xs) ys
 run_append s xs ys l =
     let n = length xs / 64 in
     let k = length ys / 64 in
@@ -57,7 +57,7 @@ run_append s xs ys l =
     ∙ ap (λ x. run x ys) (run_chunks s xs (first_chunks 64 n xs) refl)
 
 -- the whole blocks of xs, and then what is left of it and ys
-pub run_on : (s r : State) (xs ys rest : List ℕ) (blocks : List (List ℕ)) → blocks ≡ first_chunks 64 (length xs / 64) xs → rest ≡ drop (length xs / 64 * 64) xs → r ≡ absorbed s blocks → run s (xs ++ ys) ≡ run r (rest ++ ys)
+run_on : (s r : State) (xs ys rest : List ℕ) (blocks : List (List ℕ)) → blocks ≡ first_chunks 64 (length xs / 64) xs → rest ≡ drop (length xs / 64 * 64) xs → r ≡ absorbed s blocks → run s (xs ++ ys) ≡ run r (rest ++ ys)
 run_on s r xs ys rest blocks e f g =
     let n = length xs / 64 in
     let front = take (n * 64) xs in

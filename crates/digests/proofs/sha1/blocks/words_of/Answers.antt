@@ -9,5 +9,5 @@ returns c =
     let words = c.as_chunks.result.0.now in
     let e : words ≡ first_chunks 4 16 c.args.block.now = search rules in
     words_all c.args.block.now 0 c.from_fn.result c.from_fn.ensures.items.long
-    (λ j h. made_at _ (λ i. word_at (get_or words i []) 0) _ (λ i y q k. search rules) c.from_fn.result 0 16 c.from_fn.ensures.items.each j 0 (omega arith) (omega arith)
+    (λ j h. made_at _ (λ i. word_at (get_or words i []) 0) (record { 0 = c.as_chunks.result.0 }) (λ i y q k. search rules) c.from_fn.result 0 16 c.from_fn.ensures.items.each j 0 (omega arith) (omega arith)
     ∙ chunk_word c.args.block.now words 16 j h e)
