@@ -1,106 +1,124 @@
--- Blocks: the words of one, and the hash value after octets that are joined.
-use Rattle.std.proofs.Common.{◌≡◌, ℕ, zero, suc, ◌+◌, ◌-◌, ◌*◌, ◌/◌, ◌%◌, ◌^◌, ◌<◌, ◌≤◌, List, [], ◌++◌, length, get_or, set, sym, refl, ap, ◌∙◌, append_assoc, append-nil, add-one, arith}
+-- The hash value after octets that are joined.
+use Rattle.std.proofs.Common.{◌≡◌, ℕ, zero, suc, ◌+◌, ◌-◌, ◌*◌, ◌/◌, ◌%◌, ◌^◌, List, [], ◌∷◌, ◌++◌, length, get_or, take, drop, sym, refl, ap, ◌∙◌, append_assoc, append-nil, arith}
+use Rattle.std.specs.Simd.{first_chunks}
+use Rattle.std.proofs.lemmas.List.{length-append, length-drop, length-take-le, get_or-take, get_or-drop, take_all, take-append-drop, take-append-le, drop-append-le, nil_from_length}
+use Rattle.std.proofs.lemmas.List.Sums.{fold-append}
 use Rattle.digests.specs.declared.sha1.rounds.State.{State}
-use Rattle.digests.specs.Sha.{word_at, words_at, compressed, after, run, ending, padded, initial, zeros}
-use Rattle.std.proofs.lemmas.List.FromFn.{fill_by_all, get_or-map-range_with_len, length-map-range_with_len}
-use Rattle.std.proofs.lemmas.List.Edits.{fill_by_more}
-use Rattle.std.proofs.lemmas.List.{length-append, get_or_append_left, get_or-append_right}
+use Rattle.digests.specs.Runs.{absorbed}
+use Rattle.digests.specs.Sha.{words_at, compressed, after, run, ending, padded, initial, zeros}
+use Rattle.digests.proofs.Words.{words_same}
 
--- ---- the words of a block
-pub fill_at : (f : ℕ → ℕ) (w : List ℕ) (t v : ℕ) → v ≡ f t → t < length w → ((j : ℕ) → j < t → get_or w j 0 ≡ f j) → (j : ℕ) → j < t + 1 → get_or (set w t v) j 0 ≡ f j
-fill_at f w t v e h inv = rw e (fill_by_more f w t 0 h inv)
+-- ---- blocks one by one, and the octets that they are cut from
+after_first : (s : State) (xs : List ℕ) (k : ℕ) → after s xs (suc k) ≡ after (compressed s (words_at xs 0)) (drop 64 xs) k
+after_first s xs zero = refl
+after_first s xs (suc k) =
+    let e : words_at xs (suc k * 64) ≡ words_at (drop 64 xs) (k * 64) =
+    words_same xs (drop 64 xs) (suc k * 64) (k * 64) (λ j h. sym (get_or-drop 64 xs (k * 64 + j) 0 ∙ ap (λ n. get_or xs n 0) (omega arith))) in
+    ap (λ x. compressed x (words_at xs (suc k * 64))) (after_first s xs k) ∙ ap (compressed (after (compressed s (words_at xs 0)) (drop 64 xs) k)) e
 
-pub words_all : (xs : List ℕ) (i : ℕ) (w : List ℕ) → length w ≡ 16 → ((j : ℕ) → j < 16 → get_or w j 0 ≡ word_at xs (i + j * 4)) → w ≡ words_at xs i
-unfolding words_at
-words_all xs i w l f = fill_by_all (λ j. word_at xs (i + j * 4)) w 16 0 l f
+chunks_after : (k : ℕ) (s : State) (xs : List ℕ) → absorbed s (first_chunks 64 k xs) ≡ after s xs k
+chunks_after zero s xs = refl
+chunks_after (suc k) s xs =
+    let e : words_at (take 64 xs) 0 ≡ words_at xs 0 = words_same (take 64 xs) xs 0 0 (λ j h. get_or-take 64 xs (0 + j) 0 (omega arith)) in
+    chunks_after k (compressed s (words_at (take 64 xs) 0)) (drop 64 xs)
+    ∙ ap (λ w. after (compressed s w) (drop 64 xs) k) e
+    ∙ sym (after_first s xs k)
 
-words_at_lem : (xs : List ℕ) (i j : ℕ) → j < 16 → get_or (words_at xs i) j 0 ≡ word_at xs (i + j * 4)
-unfolding words_at
-words_at_lem xs i j h = get_or-map-range_with_len (λ t. word_at xs (i + t * 4)) 0 16 j j 0 h (omega arith)
-
-length_words : (xs : List ℕ) (i : ℕ) → length (words_at xs i) ≡ 16
-unfolding words_at
-length_words xs i = length-map-range_with_len (λ t. word_at xs (i + t * 4)) 0 16
-
-word_same : (xs ys : List ℕ) (i k t : ℕ) → t + 4 ≤ 64 → ((j : ℕ) → j < 64 → get_or xs (i + j) 0 ≡ get_or ys (k + j) 0) → word_at xs (i + t) ≡ word_at ys (k + t)
-word_same xs ys i k t h f =
-    let at : (n : ℕ) → t + n < 64 → get_or xs (i + t + n) 0 ≡ get_or ys (k + t + n) 0 = λ n g. ap (λ m. get_or xs m 0) (omega arith) ∙ f (t + n) g ∙ ap (λ m. get_or ys m 0) (omega arith) in
-    let e0 : get_or xs (i + t) 0 ≡ get_or ys (k + t) 0 = f t (omega arith) in
-    let e1 : get_or xs (i + t + 1) 0 ≡ get_or ys (k + t + 1) 0 = at 1 (omega arith) in
-    let e2 : get_or xs (i + t + 2) 0 ≡ get_or ys (k + t + 2) 0 = at 2 (omega arith) in
-    let e3 : get_or xs (i + t + 3) 0 ≡ get_or ys (k + t + 3) 0 = at 3 (omega arith) in
-    rw (e0, e1, e2, e3)
-
--- where two lists have the same octets from i and from k on, they have the same words there
-words_same : (xs ys : List ℕ) (i k : ℕ) → ((j : ℕ) → j < 64 → get_or xs (i + j) 0 ≡ get_or ys (k + j) 0) → words_at xs i ≡ words_at ys k
-words_same xs ys i k f = words_all ys k (words_at xs i) (length_words xs i) (λ j h. words_at_lem xs i j h ∙ word_same xs ys i k (j * 4) (omega arith) f)
-
--- ---- the hash value after some blocks
-pub after_more : (s : State) (xs : List ℕ) (k : ℕ) (x r : State) (w : List ℕ) → r ≡ compressed x w → w ≡ words_at xs (k * 64) → x ≡ after s xs k → r ≡ after s xs (k + 1)
-after_more s xs k x r w f g h = f ∙ ap (λ b. compressed x b) g ∙ ap (λ y. compressed y (words_at xs (k * 64))) h ∙ rw add-one
-
-pub run_all : (s : State) (xs : List ℕ) (k : ℕ) (x : State) → k ≡ length xs / 64 → x ≡ after s xs k → x ≡ run s xs
+pub run_chunks : (s : State) (xs : List ℕ) (blocks : List (List ℕ)) → blocks ≡ first_chunks 64 (length xs / 64) xs → absorbed s blocks ≡ run s xs
 unfolding run
-run_all s xs k x e f = f ∙ ap (after s xs) e
+run_chunks s xs blocks e = ap (absorbed s) e ∙ chunks_after (length xs / 64) s xs
 
-after_front : (s : State) (xs ys : List ℕ) (k : ℕ) → k * 64 ≤ length xs → after s (xs ++ ys) k ≡ after s xs k
-after_front s xs ys zero h = refl
-after_front s xs ys (suc k) h =
-    let ih = after_front s xs ys k (omega arith) in
-    let e : words_at (xs ++ ys) (k * 64) ≡ words_at xs (k * 64) = words_same (xs ++ ys) xs (k * 64) (k * 64) (λ j g. get_or_append_left xs ys 0 (k * 64 + j) (omega arith)) in
-    rw (ih, e)
+pub run_block : (s : State) (block : List ℕ) → length block ≡ 64 → absorbed s (block ∷ []) ≡ run s block
+run_block s block l =
+    let n : 1 ≡ length block / 64 = omega arith in
+    run_chunks s block (block ∷ []) (ap (λ b. b ∷ []) (sym (take_all 64 block (omega arith))) ∙ ap (λ k. first_chunks 64 k block) n)
 
-after_append : (s : State) (xs ys : List ℕ) (n k : ℕ) → length xs ≡ n * 64 → after s (xs ++ ys) (n + k) ≡ after (after s xs n) ys k
-after_append s xs ys n zero l = ap (after s (xs ++ ys)) (omega arith) ∙ after_front s xs ys n (omega arith)
-after_append s xs ys n (suc k) l =
-    let ih = after_append s xs ys n k l in
-    let n1 : n + suc k ≡ suc (n + k) = omega arith in
-    let e : words_at (xs ++ ys) ((n + k) * 64) ≡ words_at ys (k * 64) =
-    words_same (xs ++ ys) ys ((n + k) * 64) (k * 64) (λ j g. get_or-append_right xs ys (n * 64) ((n + k) * 64 + j) 0 l (omega arith) ∙ ap (λ m. get_or ys m 0) (omega arith)) in
-    ap (after s (xs ++ ys)) n1 ∙ rw (ih, e)
+chunks_append : (n k : ℕ) (xs ys : List ℕ) → length xs ≡ n * 64 → first_chunks 64 (n + k) (xs ++ ys) ≡ first_chunks 64 n xs ++ first_chunks 64 k ys
+chunks_append zero k xs ys l = ap (λ m. first_chunks 64 m (xs ++ ys)) (omega arith) ∙ ap (λ x. first_chunks 64 k (x ++ ys)) (nil_from_length xs (omega arith))
+chunks_append (suc n) k xs ys l =
+    let m : suc n + k ≡ suc (n + k) = omega arith in
+    let t : take 64 (xs ++ ys) ≡ take 64 xs = take-append-le 64 xs ys (omega arith) in
+    let d : drop 64 (xs ++ ys) ≡ drop 64 xs ++ ys = drop-append-le 64 xs ys (omega arith) in
+    ap (λ i. first_chunks 64 i (xs ++ ys)) m
+    ∙ ap (λ c. c ∷ first_chunks 64 (n + k) (drop 64 (xs ++ ys))) t
+    ∙ ap (λ x. take 64 xs ∷ first_chunks 64 (n + k) x) d
+    ∙ ap (λ cs. take 64 xs ∷ cs) (chunks_append n k (drop 64 xs) ys (simp length-drop (omega arith)))
 
-pub run_append : (s : State) (xs ys : List ℕ) → length xs % 64 ≡ 0 → run s (xs ++ ys) ≡ run (run s xs) ys
-unfolding run
+run_append : (s : State) (xs ys : List ℕ) → length xs % 64 ≡ 0 → run s (xs ++ ys) ≡ run (run s xs) ys
 run_append s xs ys l =
+    let n = length xs / 64 in
+    let k = length ys / 64 in
     let la = length-append xs ys in
-    ap (after s (xs ++ ys)) (omega arith) ∙ after_append s xs ys (length xs / 64) (length ys / 64) (omega arith)
+    let e : first_chunks 64 n xs ++ first_chunks 64 k ys ≡ first_chunks 64 (length (xs ++ ys) / 64) (xs ++ ys) =
+    sym (chunks_append n k xs ys (omega arith)) ∙ ap (λ m. first_chunks 64 m (xs ++ ys)) (omega arith) in
+    sym (run_chunks s (xs ++ ys) (first_chunks 64 n xs ++ first_chunks 64 k ys) e)
+    ∙ fold-append _ s (first_chunks 64 n xs) (first_chunks 64 k ys)
+    ∙ run_chunks (absorbed s (first_chunks 64 n xs)) ys (first_chunks 64 k ys) refl
+    ∙ ap (λ x. run x ys) (run_chunks s xs (first_chunks 64 n xs) refl)
+
+-- the whole blocks of xs, and then what is left of it and ys
+run_on : (s r : State) (xs ys rest : List ℕ) (blocks : List (List ℕ)) → blocks ≡ first_chunks 64 (length xs / 64) xs → rest ≡ drop (length xs / 64 * 64) xs → r ≡ absorbed s blocks → run s (xs ++ ys) ≡ run r (rest ++ ys)
+run_on s r xs ys rest blocks e f g =
+    let n = length xs / 64 in
+    let front = take (n * 64) xs in
+    let back = drop (n * 64) xs in
+    let l : length front ≡ n * 64 = length-take-le (n * 64) xs (omega arith) in
+    let c : first_chunks 64 n xs ≡ first_chunks 64 n front =
+    ap (λ x. first_chunks 64 n x) (sym (take-append-drop (n * 64) xs))
+    ∙ ap (λ m. first_chunks 64 m (front ++ back)) (omega arith)
+    ∙ chunks_append n 0 front back l
+    ∙ append-nil (first_chunks 64 n front) in
+    let h : r ≡ run s front = g ∙ run_chunks s front blocks (e ∙ c ∙ ap (λ m. first_chunks 64 m front) (omega arith)) in
+    ap (λ x. run s (x ++ ys)) (sym (take-append-drop (n * 64) xs))
+    ∙ ap (run s) (append_assoc front back ys)
+    ∙ run_append s front (back ++ ys) (omega arith)
+    ∙ ap (λ x. run x (back ++ ys)) (sym h)
+    ∙ ap (λ x. run r (x ++ ys)) (sym f)
 
 -- ---- a message of two parts
-zeros_same : (n m : ℕ) → n % 64 ≡ m % 64 → zeros n ≡ zeros m
-zeros_same n m e = ap (λ r. (119 - r) % 64) e
-
 -- the end of a message of n octets, of which the last m are what is left of its last block
 ending_same : (n m bits : ℕ) → n % 64 ≡ m % 64 → bits ≡ (n * 8) % 2 ^ 64 → ending n ((n * 8) % 2 ^ 64) ≡ ending m bits
-ending_same n m bits e f = let z = zeros_same n m e in rw (z, f)
+ending_same n m bits e f =
+    let z : zeros n ≡ zeros m = ap (λ r. (119 - r) % 64) e in
+    rw (z, f)
 
--- a is whole blocks and x, and x and b end in the same block
-pub message_short : (a b whole x : List ℕ) (bits : ℕ) (s r : State) → a ≡ whole ++ x → length whole % 64 ≡ 0 → bits ≡ ((length a + length b) * 8) % 2 ^ 64
-    → s ≡ run initial whole → r ≡ run s ((x ++ b) ++ ending (length x + length b) bits) → r ≡ run initial (padded (a ++ b))
-message_short a b whole x bits s r ea l eb es er =
-    let lab = length-append a b in
-    let la : length a ≡ length whole + length x = ap length ea ∙ length-append whole x in
-    let m : length (a ++ b) % 64 ≡ (length x + length b) % 64 = omega arith in
-    let c : ending (length (a ++ b)) ((length (a ++ b) * 8) % 2 ^ 64) ≡ ending (length x + length b) bits = ending_same (length (a ++ b)) (length x + length b) bits m (eb ∙ ap (λ n. (n * 8) % 2 ^ 64) (sym lab)) in
-    let e : padded (a ++ b) ≡ whole ++ ((x ++ b) ++ ending (length x + length b) bits) =
-    ap (λ t. (a ++ b) ++ t) c ∙ ap (λ t. (t ++ b) ++ ending (length x + length b) bits) ea ∙ simp append_assoc in
-    er ∙ ap (λ y. run y ((x ++ b) ++ ending (length x + length b) bits)) es ∙ sym (ap (run initial) e ∙ run_append initial whole ((x ++ b) ++ ending (length x + length b) bits) l)
+-- x is left of a, and x and b end in the same block
+pub message_short : (m a b x : List ℕ) (blocks : List (List ℕ)) (bits : ℕ) (s r : State) → m ≡ a ++ b
+    → blocks ≡ first_chunks 64 (length a / 64) a → x ≡ drop (length a / 64 * 64) a → s ≡ absorbed initial blocks
+    → bits ≡ (length m * 8) % 2 ^ 64 → r ≡ run s ((x ++ b) ++ ending (length (x ++ b)) bits) → r ≡ run initial (padded m)
+message_short m a b x blocks bits s r em ea ex es eb er =
+    let E = ending (length m) ((length m * 8) % 2 ^ 64) in
+    let lm : length m ≡ length a + length b = ap length em ∙ length-append a b in
+    let lx : length (x ++ b) ≡ length a % 64 + length b = length-append x b ∙ ap (λ n. n + length b) (ap length ex ∙ length-drop (length a / 64 * 64) a ∙ omega arith) in
+    let c : E ≡ ending (length (x ++ b)) bits = ending_same (length m) (length (x ++ b)) bits (omega arith) eb in
+    er
+    ∙ ap (λ t. run s ((x ++ b) ++ t)) (sym c)
+    ∙ ap (run s) (append_assoc x b E)
+    ∙ sym (run_on initial s a (b ++ E) x blocks ea ex es)
+    ∙ ap (run initial) (sym (append_assoc a b E))
+    ∙ ap (λ t. run initial (t ++ E)) (sym em)
 
--- a is whole blocks and x, b is what fills up the block that x begins, whole blocks and y
-pub message_long : (a b whole x front behind middle y : List ℕ) (bits : ℕ) (s t u r : State) → a ≡ whole ++ x → length whole % 64 ≡ 0 → b ≡ front ++ behind → length x + length front ≡ 64
-    → behind ≡ middle ++ y → length middle % 64 ≡ 0 → bits ≡ ((length a + length b) * 8) % 2 ^ 64
-    → s ≡ run initial whole → t ≡ run s (x ++ front) → u ≡ run t middle → r ≡ run u ((y ++ []) ++ ending (length y + 0) bits) → r ≡ run initial (padded (a ++ b))
-message_long a b whole x front behind middle y bits s t u r ea l eb lx ec lm ebits es et eu er =
-    let lab = length-append a b in
-    let la : length a ≡ length whole + length x = ap length ea ∙ length-append whole x in
-    let lc : length behind ≡ length middle + length y = ap length ec ∙ length-append middle y in
+-- x is left of a, front fills up the block that x begins, and y is left of what follows it
+pub message_long : (m a b x front behind y : List ℕ) (blocks middle : List (List ℕ)) (bits : ℕ) (s t u r : State) → m ≡ a ++ b
+    → blocks ≡ first_chunks 64 (length a / 64) a → x ≡ drop (length a / 64 * 64) a → s ≡ absorbed initial blocks
+    → b ≡ front ++ behind → length (x ++ front) ≡ 64 → t ≡ run s (x ++ front)
+    → middle ≡ first_chunks 64 (length behind / 64) behind → y ≡ drop (length behind / 64 * 64) behind → u ≡ absorbed t middle
+    → bits ≡ (length m * 8) % 2 ^ 64 → r ≡ run u ((y ++ []) ++ ending (length (y ++ [])) bits) → r ≡ run initial (padded m)
+message_long m a b x front behind y blocks middle bits s t u r em ea ex es eb l64 et ec ey eu ebits er =
+    let E = ending (length m) ((length m * 8) % 2 ^ 64) in
+    let lm : length m ≡ length a + length b = ap length em ∙ length-append a b in
     let lb : length b ≡ length front + length behind = ap length eb ∙ length-append front behind in
-    let lj : length (x ++ front) % 64 ≡ 0 = ap (λ n. n % 64) (length-append x front ∙ lx) in
-    let m : length (a ++ b) % 64 ≡ (length y + 0) % 64 = omega arith in
-    let C = ending (length y + 0) bits in
-    let c : ending (length (a ++ b)) ((length (a ++ b) * 8) % 2 ^ 64) ≡ C = ending_same (length (a ++ b)) (length y + 0) bits m (ebits ∙ ap (λ n. (n * 8) % 2 ^ 64) (sym lab)) in
-    let eb' : b ≡ front ++ (middle ++ y) = eb ∙ ap (λ t. front ++ t) ec in
-    let e : padded (a ++ b) ≡ whole ++ ((x ++ front) ++ (middle ++ ((y ++ []) ++ C))) =
-    ap (λ t. (a ++ b) ++ t) c ∙ ap (λ t. (t ++ b) ++ C) ea ∙ ap (λ t. ((whole ++ x) ++ t) ++ C) eb' ∙ simp (append_assoc, append-nil) in
-    let r3 : run t (middle ++ ((y ++ []) ++ C)) ≡ r = run_append t middle ((y ++ []) ++ C) lm ∙ ap (λ v. run v ((y ++ []) ++ C)) (sym eu) ∙ sym er in
-    let r2 : run s ((x ++ front) ++ (middle ++ ((y ++ []) ++ C))) ≡ r = run_append s (x ++ front) (middle ++ ((y ++ []) ++ C)) lj ∙ ap (λ v. run v (middle ++ ((y ++ []) ++ C))) (sym et) ∙ r3 in
-    sym (ap (run initial) e ∙ run_append initial whole ((x ++ front) ++ (middle ++ ((y ++ []) ++ C))) l ∙ ap (λ v. run v ((x ++ front) ++ (middle ++ ((y ++ []) ++ C)))) (sym es) ∙ r2)
+    let lx : length x ≡ length a % 64 = ap length ex ∙ length-drop (length a / 64 * 64) a ∙ omega arith in
+    let lj : length x + length front ≡ 64 = sym (length-append x front) ∙ l64 in
+    let ly : length (y ++ []) ≡ length behind % 64 = ap length (append-nil y ∙ ey) ∙ length-drop (length behind / 64 * 64) behind ∙ omega arith in
+    let c : E ≡ ending (length (y ++ [])) bits = ending_same (length m) (length (y ++ [])) bits (omega arith) ebits in
+    er
+    ∙ ap (λ z. run u ((y ++ []) ++ z)) (sym c)
+    ∙ ap (λ z. run u (z ++ E)) (append-nil y)
+    ∙ sym (run_on t u behind E y middle ec ey eu)
+    ∙ ap (λ z. run z (behind ++ E)) et
+    ∙ sym (run_append s (x ++ front) (behind ++ E) (omega arith))
+    ∙ ap (run s) (append_assoc x front (behind ++ E) ∙ ap (λ z. x ++ z) (sym (append_assoc front behind E)) ∙ ap (λ z. x ++ (z ++ E)) (sym eb))
+    ∙ sym (run_on initial s a (b ++ E) x blocks ea ex es)
+    ∙ ap (run initial) (sym (append_assoc a b E))
+    ∙ ap (λ z. run initial (z ++ E)) (sym em)

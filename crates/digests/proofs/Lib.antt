@@ -1,3 +1,4 @@
 mod Joins
 mod Lays
 mod Steps
+mod Words

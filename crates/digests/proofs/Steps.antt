@@ -1,5 +1,5 @@
 -- All rounds of a block: rounds of one kind after another, over the schedule taken as windows of 16 words.
-use Rattle.std.proofs.Common.{◌≡◌, ℕ, zero, suc, ◌+◌, ◌-◌, ◌%◌, ◌<◌, ◌≤◌, true, false, ltb, List, [], ◌∷◌, ◌++◌, length, get_or, take, drop, set, sym, refl, ap, ◌∙◌, inl, inr, append_assoc, append-nil, add-one, arith}
+use Rattle.std.proofs.Common.{◌≡◌, ℕ, zero, suc, ◌+◌, ◌-◌, ◌%◌, ◌<◌, ◌≤◌, true, false, ltb, List, [], ◌∷◌, ◌++◌, length, get_or, take, drop, set, sym, refl, ap, ◌∙◌, inl, inr, append_assoc, add-one, arith}
 use Rattle.std.specs.List.{fold}
 use Rattle.std.proofs.lemmas.Bool.{lt-ltb, le-ltb, cases_lt}
 use Rattle.std.proofs.lemmas.List.{length-append, length-drop, get_or_append_left, get_or-append_right, get_or-drop, get_or-take, take_all, take-append-le, take-append-drop, length-take, length-take-le, drop_all, drop_more, drop-append-le, set_at}
@@ -16,7 +16,7 @@ schedule_suc : (b : List ℕ) (n : ℕ) → schedule b (suc n) ≡ schedule b n 
 unfolding schedule
 schedule_suc b n = refl
 
-pub rounds_append : (t : ℕ) (s : State) (xs ys : List ℕ) → rounds t s (xs ++ ys) ≡ rounds (t + length xs) (rounds t s xs) ys
+rounds_append : (t : ℕ) (s : State) (xs ys : List ℕ) → rounds t s (xs ++ ys) ≡ rounds (t + length xs) (rounds t s xs) ys
 rounds_append t s [] ys = ap (λ n. rounds n s ys) (omega arith)
 rounds_append t s (x ∷ xs) ys =
     let e : t + 1 + length xs ≡ t + suc (length xs) = omega arith in
@@ -41,25 +41,25 @@ rounds_by f lo hi same t s [] g h = refl
 rounds_by f lo hi same t s (w ∷ ws) g h =
     ap (λ x. fold f x ws) (sym (same t s w g (omega arith))) ∙ rounds_by f lo hi same (t + 1) (stepped t s w) ws (omega arith) (omega arith)
 
-pub by_choose : (t : ℕ) (s : State) (ws : List ℕ) → t + length ws ≤ 20 → fold choosing s ws ≡ rounds t s ws
+by_choose : (t : ℕ) (s : State) (ws : List ℕ) → t + length ws ≤ 20 → fold choosing s ws ≡ rounds t s ws
 by_choose t s ws h = rounds_by choosing 0 20 (λ t s w _ k. same_choose t s w k) t s ws (omega arith) h
 
-pub by_first : (t : ℕ) (s : State) (ws : List ℕ) → 20 ≤ t → t + length ws ≤ 40 → fold (parting 0x6ed9eba1) s ws ≡ rounds t s ws
+by_first : (t : ℕ) (s : State) (ws : List ℕ) → 20 ≤ t → t + length ws ≤ 40 → fold (parting 0x6ed9eba1) s ws ≡ rounds t s ws
 by_first = rounds_by (parting 0x6ed9eba1) 20 40 same_first
 
-pub by_majority : (t : ℕ) (s : State) (ws : List ℕ) → 40 ≤ t → t + length ws ≤ 60 → fold majoring s ws ≡ rounds t s ws
+by_majority : (t : ℕ) (s : State) (ws : List ℕ) → 40 ≤ t → t + length ws ≤ 60 → fold majoring s ws ≡ rounds t s ws
 by_majority = rounds_by majoring 40 60 same_majority
 
-pub by_second : (t : ℕ) (s : State) (ws : List ℕ) → 60 ≤ t → t + length ws ≤ 80 → fold (parting 0xca62c1d6) s ws ≡ rounds t s ws
+by_second : (t : ℕ) (s : State) (ws : List ℕ) → 60 ≤ t → t + length ws ≤ 80 → fold (parting 0xca62c1d6) s ws ≡ rounds t s ws
 by_second = rounds_by (parting 0xca62c1d6) 60 80 (λ t s w g _. same_second t s w g)
 
 -- ---- windows of the schedule
-pub length_schedule : (w : List ℕ) (n : ℕ) → length (schedule w n) ≡ length w + n
+length_schedule : (w : List ℕ) (n : ℕ) → length (schedule w n) ≡ length w + n
 unfolding schedule
 length_schedule w zero = omega arith
 length_schedule w (suc n) = let ih = length_schedule w n in simp length-append (omega arith)
 
-pub front_schedule : (w : List ℕ) (n : ℕ) → take (length w) (schedule w n) ≡ w
+front_schedule : (w : List ℕ) (n : ℕ) → take (length w) (schedule w n) ≡ w
 unfolding schedule
 front_schedule w zero = take_all (length w) w (omega arith)
 front_schedule w (suc n) = take-append-le (length w) (schedule w n) _ (let l = length_schedule w n in omega arith) ∙ front_schedule w n
@@ -73,7 +73,7 @@ unfolding schedule
 rolled_none w l = ap (λ t. t ++ w) (sym (drop_all 16 w (omega arith)))
 
 -- word i + k of the schedule stands at (i + k) % 16
-pub rolled_at : (w : List ℕ) (i k : ℕ) → length w ≡ 16 → i < 16 → k < 16 → get_or (Rolled w i) ((i + k) % 16) 0 ≡ get_or (schedule w i) (i + k) 0
+rolled_at : (w : List ℕ) (i k : ℕ) → length w ≡ 16 → i < 16 → k < 16 → get_or (Rolled w i) ((i + k) % 16) 0 ≡ get_or (schedule w i) (i + k) 0
 rolled_at w i k l h g = elim (cases_lt (i + k) 16) [
   | inl p ↦
       let m : (i + k) % 16 ≡ i + k = omega arith in
@@ -110,9 +110,6 @@ rolled_more w v i x l h e f =
     ∙ ap (λ t. t ++ drop (i + 1) w) (sym (drop-append-le 16 (schedule w i) (next_word (schedule w i) i ∷ []) p))
     ∙ rw add-one
 
-pub rolled_all : (w v : List ℕ) (i : ℕ) → length w ≡ 16 → i ≡ 16 → v ≡ Rolled w i → v ≡ window w
-rolled_all w v i l h e = e ∙ ap (λ n. Rolled w n) h ∙ ap (λ t. window w ++ t) (drop_all 16 w (omega arith)) ∙ append-nil (window w)
-
 -- the schedule by windows
 next_shift : (w x : List ℕ) (m : ℕ) → length w ≡ 16 → next_word (w ++ x) (16 + m) ≡ next_word x m
 next_shift w x m l =
@@ -120,7 +117,7 @@ next_shift w x m l =
     let at0 : get_or (w ++ x) (16 + m) 0 ≡ get_or x m 0 = get_or-append_right w x 16 (16 + m) 0 l (omega arith) ∙ ap (λ n. get_or x n 0) (omega arith) in
     rw (at 13, at 8, at 2, at0)
 
-pub schedule_shift : (w : List ℕ) (m : ℕ) → length w ≡ 16 → schedule w (16 + m) ≡ w ++ schedule (window w) m
+schedule_shift : (w : List ℕ) (m : ℕ) → length w ≡ 16 → schedule w (16 + m) ≡ w ++ schedule (window w) m
 schedule_shift w zero l =
     ap (λ n. schedule w n) (omega arith) ∙ sym (take-append-drop 16 (schedule w 16))
     ∙ ap (λ t. t ++ drop 16 (schedule w 16)) (ap (λ n. take n (schedule w 16)) (sym l) ∙ front_schedule w 16)
@@ -133,7 +130,7 @@ schedule_shift w (suc m) l =
     ∙ ap (λ y. (w ++ schedule (window w) m) ++ (y ∷ [])) (next_shift w (schedule (window w) m) m l)
     ∙ append_assoc w (schedule (window w) m) _ ∙ ap (λ t. w ++ t) (sym (schedule_suc (window w) m))
 
-pub length_window : (w : List ℕ) → length w ≡ 16 → length (window w) ≡ 16
+length_window : (w : List ℕ) → length w ≡ 16 → length (window w) ≡ 16
 length_window w l = let ls = length_schedule w 16 in simp length-drop (omega arith)
 
 -- two runs over one window

@@ -1,7 +1,8 @@
 -- Rounds of one kind, and windows of the schedule: how the code goes about SHA-1.
 use Rattle.std.specs.Prelude.{ℕ, List, drop}
+use Rattle.std.specs.List.{fold}
 use Rattle.digests.specs.declared.sha1.rounds.State.{State}
-use Rattle.digests.specs.Sha.{add, rotl, ch, parity, maj, schedule}
+use Rattle.digests.specs.Sha.{add, rotl, ch, parity, maj, schedule, words_at, compressed}
 
 -- a round, of which f is the function's value and k the constant
 abbrev pub turned : ℕ → ℕ → State → ℕ → State
@@ -26,3 +27,7 @@ majoring s w = turned 0x8f1bbcdc (maj s.b s.c s.d) s w
 -- the 16 words of a schedule after 16 others
 abbrev pub window : List ℕ → List ℕ
 window w = drop 16 (schedule w 16)
+
+-- the hash value s after blocks of 64 octets
+abbrev pub absorbed : State → List (List ℕ) → State
+absorbed s blocks = fold (λ x b. compressed x (words_at b 0)) s blocks

@@ -4,6 +4,7 @@
 use digests::byte_sum::ByteSum;
 use digests::digest::Digest;
 use digests::sha1::Sha1;
+use std::array;
 use std::process::Abort;
 use std::test::Fail;
 
@@ -88,11 +89,7 @@ const OF_MILLION: &[u8] =
     b"\x34\xaa\x97\x3c\xd4\xc4\xda\xa4\xf6\x1e\xeb\x2b\xdb\xad\x27\x31\x65\x34\x01\x6f";
 
 fn message() -> [u8; LONGEST] {
-    let mut m = [0u8; LONGEST];
-    for i in 0..LONGEST {
-        m[i] = (i % 251) as u8;
-    }
-    m
+    array::from_fn(|i| (i % 251) as u8)
 }
 
 // The digest of the message, split at `at`, is written to the front of the buffer, and the rest of it stays.
@@ -104,19 +101,18 @@ fn check_split<D: Digest>(
     at: usize,
     digest: &[u8],
 ) -> Result<(), Fail> {
-    let Some((a, b)) = message.split_at_checked(at) else {
-        return Err(Fail::new("a split past the end"));
-    };
+    let (a, b) = message.split_at_checked(at).ok_or("a split past the end")?;
     let mut out = [0xee; 255];
     let n = d.digest(a, b, &mut out);
     assert_eq!(rt; n, digest.len(), "{} of {}", at, message.len());
-    let Some((front, rest)) = out.split_at_checked(n) else {
-        return Err(Fail::new("a digest past the end"));
-    };
+    let (front, rest) = out.split_at_checked(n).ok_or("a digest past the end")?;
     assert_eq!(rt; front, digest, "{} of {}", at, message.len());
-    for x in rest {
-        assert_eq!(rt; *x, 0xee, "{} of {}", at, message.len());
-    }
+    assert!(rt;
+        rest.iter().all(|x| *x == 0xee),
+        "{} of {}",
+        at,
+        message.len()
+    );
     Ok(())
 }
 
@@ -124,9 +120,7 @@ fn check_split<D: Digest>(
 fn sha1_of_two_parts(rt: HostRuntime) -> Result<(), Fail> {
     let m = message();
     for (len, digest) in VECTORS {
-        let Some((front, _)) = m.split_at_checked(len) else {
-            return Err(Fail::new("a length past the end"));
-        };
+        let front = m.get(..len).ok_or("a length past the end")?;
         for at in [0, len.min(1), len / 2, len] {
             check_split(&rt, &Sha1, front, at, digest)?;
         }

@@ -1,8 +1,11 @@
 // The blocks of 64 octets that SHA-1 goes over.
-ghost use Rattle.std.specs.Prelude.{◌≡◌, ◌+◌, ◌*◌, ◌%◌, ◌^◌, ◌<◌, ◌≤◌, ◌++◌, length, drop};
-ghost use Rattle.digests.specs.Sha.{word_at, words_at, ending, padded, initial, run};
+ghost use Rattle.std.specs.Prelude.{◌≡◌, ◌*◌, ◌%◌, ◌^◌, ◌<◌, ◌≤◌, ◌++◌, length, drop};
+ghost use Rattle.digests.specs.Runs.{absorbed};
+ghost use Rattle.digests.specs.Sha.{words_at, ending, padded, initial, run};
 
 use crate::sha1::rounds::{INITIAL, State, compress};
+use std::array;
+use std::marker::Model;
 
 // How many octets a block has.
 const BLOCK: usize = 64;
@@ -13,102 +16,102 @@ const ROOM: usize = 56;
 // The bit 1 behind the message, with seven zeros.
 const MARK: u8 = 0x80;
 
-// The word at octet i.
-fn word_at(s: &[u8], i: usize) -> u32
-    requires { i + 4 ≤ length s.now }
-    ensures { result ≡ word_at s.now i }
+// The words of a block.
+fn words_of(block: &[u8; BLOCK]) -> [u32; 16]
+    ensures { result ≡ words_at block.now 0 }
 {
-    u32::from_be_bytes([s[i], s[i + 1], s[i + 2], s[i + 3]])
+    let (words, _) = block.as_chunks::<4>();
+    array::from_fn(|i| u32::from_be_bytes(words[i]))
 }
 
-// The words of the block that begins at octet i.
-fn words_at(s: &[u8], i: usize) -> [u32; 16]
-    requires { i + 64 ≤ length s.now }
-    ensures { result ≡ words_at s.now i }
+// The hash value after blocks.
+fn absorb(s: State, blocks: &[[u8; BLOCK]]) -> State
+    ensures { result ≡ absorbed s blocks.now }
 {
-    let mut w = [0u32; 16];
-    for t in 0..16usize {
-        w[t] = word_at(s, i + t * 4);
+    blocks.iter().map(words_of).fold(s, compress)
+}
+
+// Octets in two parts, which count as joined.
+#[derive(Drop)]
+pub(crate) struct Joined<'a> {
+    front: &'a [u8],
+    behind: &'a [u8],
+}
+
+impl<'a> Model for Joined<'a> {
+    ghost use Rattle.std.specs.Prelude.{ℕ, List, ◌++◌};
+
+    ghost Value = { List ℕ };
+
+    ghost view = { λ j. j.front.now ++ j.behind.now };
+}
+
+impl<'a> Joined<'a> {
+    pub(crate) fn new(front: &'a [u8], behind: &'a [u8]) -> Self
+        ensures { result ≡ front.now ++ behind.now }
+    {
+        Joined { front, behind }
     }
-    w
-}
 
-// The hash value after the whole blocks of octets.
-fn absorb(s: State, octets: &[u8]) -> State
-    ensures { result ≡ run s octets.now }
-{
-    let mut x = s;
-    for k in 0..octets.len() / BLOCK {
-        x = compress(x, &words_at(octets, k * BLOCK));
+    fn len(&self) -> usize
+        ensures { result ≡ length self.now }
+    {
+        self.front.len() + self.behind.len()
     }
-    x
-}
 
-// Writes a to the front, and b behind it.
-fn lay(out: &mut [u8], a: &[u8], b: &[u8])
-    requires { length a.now + length b.now ≤ length out.old }
-    ensures { out.new ≡ (a.now ++ b.now) ++ drop (length a.now + length b.now) out.old }
-{
-    let n = a.len();
-    out[0..n].copy_from_slice(a);
-    out[n..n + b.len()].copy_from_slice(b);
-}
-
-// The hash value after the one block that a and b are, joined.
-fn absorb_joined(s: State, a: &[u8], b: &[u8]) -> State
-    requires { length a.now + length b.now ≡ 64 }
-    ensures { result ≡ run s (a.now ++ b.now) }
-{
-    let mut block = [0u8; BLOCK];
-    lay(&mut block, a, b);
-    absorb(s, &block)
-}
-
-// The hash value at the end of a message of so many bits, of which a and b, joined, are what follows its whole blocks.
-fn finish(s: State, a: &[u8], b: &[u8], bits: u64) -> State
-    requires { length a.now + length b.now < 64 }
-    ensures { result ≡ run s ((a.now ++ b.now) ++ ending (length a.now + length b.now) bits) }
-{
-    let n = a.len() + b.len();
-    let mut last = [0u8; 2 * BLOCK];
-    lay(&mut last, a, b);
-    last[n] = MARK;
-    let end = if n < ROOM { BLOCK } else { 2 * BLOCK };
-    last[end - 8..end].copy_from_slice(&bits.to_be_bytes());
-    absorb(s, &last[0..end])
-}
-
-// The length in bits of a and b joined, mod 2 ^ 64.
-fn bits_of(a: &[u8], b: &[u8]) -> u64
-    ensures { result ≡ ((length a.now + length b.now) * 8) % 2 ^ 64 }
-{
-    (a.len() as u64)
-        .wrapping_add(b.len() as u64)
-        .wrapping_mul(8)
-}
-
-// Octets up to the end of their last whole block, and the rest.
-fn split_blocks(s: &[u8]) -> (&[u8], &[u8])
-    ensures joined { s.now ≡ result.0.now ++ result.1.now }
-    ensures whole { length result.0.now % 64 ≡ 0 }
-    ensures rest { length result.1.now < 64 }
-{
-    s.split_at(s.len() / BLOCK * BLOCK)
-}
-
-// The hash value at the end of the message that a and b are, joined.
-pub(crate) fn absorb_message(a: &[u8], b: &[u8]) -> State
-    ensures { result ≡ run initial (padded (a.now ++ b.now)) }
-{
-    let bits = bits_of(a, b);
-    let (whole, rest) = split_blocks(a);
-    let s = absorb(INITIAL, whole);
-    let lack = BLOCK - rest.len();
-    if b.len() < lack {
-        return finish(s, rest, b, bits);
+    // The length in bits, mod 2 ^ 64.
+    fn bits(&self) -> u64
+        ensures { result ≡ (length self.now * 8) % 2 ^ 64 }
+    {
+        (self.len() as u64).wrapping_mul(8)
     }
-    let (front, behind) = b.split_at(lack);
-    let t = absorb_joined(s, rest, front);
-    let (middle, last) = split_blocks(behind);
-    finish(absorb(t, middle), last, &[], bits)
+
+    // Writes the octets to the front.
+    fn lay(&self, out: &mut [u8])
+        requires { length self.now ≤ length out.old }
+        ensures { out.new ≡ self.now ++ drop (length self.now) out.old }
+    {
+        let n = self.front.len();
+        out[..n].copy_from_slice(self.front);
+        out[n..n + self.behind.len()].copy_from_slice(self.behind);
+    }
+
+    // The hash value after the one block that the octets are.
+    fn absorb(&self, s: State) -> State
+        requires { length self.now ≡ 64 }
+        ensures { result ≡ run s self.now }
+    {
+        let mut block = [0; BLOCK];
+        self.lay(&mut block);
+        absorb(s, &[block])
+    }
+
+    // The hash value at the end of a message of so many bits, of which the octets are what follows its whole blocks.
+    fn finish(&self, s: State, bits: u64) -> State
+        requires { length self.now < 64 }
+        ensures { result ≡ run s (self.now ++ ending (length self.now) bits) }
+    {
+        let n = self.len();
+        let mut last = [0; 2 * BLOCK];
+        self.lay(&mut last);
+        last[n] = MARK;
+        let end = if n < ROOM { BLOCK } else { 2 * BLOCK };
+        last[end - 8..end].copy_from_slice(&bits.to_be_bytes());
+        absorb(s, last[..end].as_chunks().0)
+    }
+
+    // The hash value at the end of the message that the octets are.
+    pub(crate) fn hash(&self) -> State
+        ensures { result ≡ run initial (padded self.now) }
+    {
+        let bits = self.bits();
+        let (whole, rest) = self.front.as_chunks();
+        let s = absorb(INITIAL, whole);
+        let Some((front, behind)) = self.behind.split_at_checked(BLOCK - rest.len()) else {
+            return Joined::new(rest, self.behind).finish(s, bits);
+        };
+        let t = Joined::new(rest, front).absorb(s);
+        let (middle, last) = behind.as_chunks();
+        Joined::new(last, &[]).finish(absorb(t, middle), bits)
+    }
 }

@@ -85,11 +85,11 @@ fn advance(w: [u32; 16]) -> [u32; 16]
 }
 
 // All rounds.
-fn run_all(s: State, block: &[u32; 16]) -> State
-    ensures { result ≡ rounds_from 0 s (schedule block.now 64) }
+fn run_all(s: State, block: [u32; 16]) -> State
+    ensures { result ≡ rounds_from 0 s (schedule block 64) }
 {
     let x0 = block.iter().fold(s, choose);
-    let w1 = advance(*block);
+    let w1 = advance(block);
     let x1 = w1[..4].iter().fold(x0, choose);
     let x2 = w1[4..].iter().fold(x1, parity::<K_PARITY>);
     let w2 = advance(w1);
@@ -102,8 +102,8 @@ fn run_all(s: State, block: &[u32; 16]) -> State
 }
 
 // The hash value after one block.
-pub(crate) fn compress(s: State, block: &[u32; 16]) -> State
-    ensures { result ≡ compressed s block.now }
+pub(crate) fn compress(s: State, block: [u32; 16]) -> State
+    ensures { result ≡ compressed s block }
 {
     let t = run_all(s, block);
     State {

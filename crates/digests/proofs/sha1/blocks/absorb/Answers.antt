@@ -1,9 +1,12 @@
-use Rattle.std.proofs.Common.{arith}
-use Rattle.digests.proofs.Joins.{after_more, run_all}
+use Rattle.std.proofs.Common.{◌∙◌, rules}
+use Rattle.std.proofs.lemmas.Iterator.{YieldsList-from_slice, YieldsList-from_map}
+use Rattle.std.proofs.lemmas.Iterator.Consumers.{fold_from_yields_List}
+use Rattle.std.proofs.lemmas.List.Folds.{fold-map}
+use Rattle.digests.specs.Sha.{compressed, words_at}
 use Rattle.digests.proofs.sha1.blocks.absorb.Goals as goal
 
-pub loop-k-preserved : goal.loop-k-preserved
-loop-k-preserved c = after_more c.args.s c.args.octets.now c.loop-k.k c.loop-k.x _ c.words_at.result c.compress-x.ensures c.words_at.ensures c.loop-k.invariant
-
 pub returns : goal.returns
-returns c = run_all c.args.s c.args.octets.now c.loop-k.k c.loop-k.x (omega arith) c.loop-k.invariant
+returns c =
+    fold_from_yields_List _ compressed c.args.s c.fold.result c.fold.ensures.ran
+    (YieldsList-from_map _ (λ b. words_at b 0) (YieldsList-from_slice c.args.blocks.now (cc)) c.map.ensures.closure (λ x r q k. search rules)) (λ a x b q k. search rules)
+    ∙ fold-map compressed (λ b. words_at b 0) c.args.s c.args.blocks.now

@@ -11,9 +11,9 @@ returns c =
     let w2 = c.advance-w2.result in
     let w3 = c.advance-w3.result in
     let w4 = c.advance.result in
-    all_rounds c.args.s _ _ _ _ _ _ _ _ c.args.block.now w1 w2 w3 w4 (search rules)
+    all_rounds c.args.s _ _ _ _ _ _ _ _ c.args.block w1 w2 w3 w4 (search rules)
     c.advance-w1.ensures c.advance-w2.ensures c.advance-w3.ensures c.advance.ensures
-    (fold_from_yields_List _ choosing c.args.s c.fold-x0.result c.fold-x0.ensures.ran (YieldsList-from_slice c.args.block.now c.iter.ensures.rest) (λ a x b q k. search rules))
+    (fold_from_yields_List _ choosing c.args.s c.fold-x0.result c.fold-x0.ensures.ran (YieldsList-from_slice c.args.block c.iter.ensures.rest) (λ a x b q k. search rules))
     (fold_from_yields_List _ choosing c.fold-x0.result c.fold-x1.result c.fold-x1.ensures.ran (YieldsList-from_slice (take 4 w1) c.iter-2.ensures.rest) (λ a x b q k. search rules))
     (fold_from_yields_List _ (parting 0x6ed9eba1) c.fold-x1.result c.fold-x2.result c.fold-x2.ensures.ran (YieldsList-from_slice (take 12 (drop 4 w1)) c.iter-3.ensures.rest) (λ a x b q k. search rules))
     (fold_from_yields_List _ (parting 0x6ed9eba1) c.fold-x2.result c.fold-x3.result c.fold-x3.ensures.ran (YieldsList-from_slice (take 8 w2) c.iter-4.ensures.rest) (λ a x b q k. search rules))
