@@ -161,14 +161,11 @@ fn push_label(text: &mut String, label: &[u8]) -> Result<(), AllocError>
     Ok(())
 }
 
-// Says by its contract that the octets of a slice are below 256, which the checker knows where one of them is read.
+// Says by its contract that the octets of a slice are below 256, which the checker knows of a parameter.
+// Kept: without a call of it that fact stays open where `reads_back` of a name and of a set needs it.
 pub(crate) fn octets_fit(octets: &[u8])
     ensures { are_octets octets.now ≡ true }
-{
-    if !octets.is_empty() {
-        let _first = octets[0];
-    }
-}
+{}
 
 // The labels of a name, printed, each followed by a dot.
 fn labels_text(heap: Global, name: &Name<'_>) -> Result<String, AllocError>
