@@ -42,6 +42,7 @@ pub fn read_set(heap: Global, text: &str) -> Result<TypeSet, Fault>
 }
 
 // A set of types, printed.
+// Kept: an `impl Display` of a type around the set would state the text, and has no place for `reads_back`.
 pub fn set_text(heap: Global, set: &TypeSet) -> Result<String, AllocError>
     ensures text { IfOk result (λ s. string_bytes s ≡ set_text (words_in set.now)) }
     ensures reads_back { IfOk result (λ s. read_set (string_bytes s) ≡ Some (words_in set.now)) }
