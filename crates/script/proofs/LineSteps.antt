@@ -1,5 +1,9 @@
 -- The steps of the reader of lines.
-use Rattle.std.proofs.Common.{◌≡◌, ℕ, suc, ◌<◌, true, false, cond, eqb, ◌⊎◌, [], ◌∷◌, ◌++◌, length, get_or, Some, None, Ok, Err, codes, Option, Result, sym, refl, ap, ◌∙◌, ap₂, inl, inr, arith}
+use Rattle.std.proofs.Common.{◌≡◌, ℕ, suc, ◌<◌, true, false, cond, eqb, ◌⊎◌, List, [], ◌∷◌, ◌++◌, length, get_or, drop, Some, None, Ok, Err, codes, Option, Result, unwrap_or, sym, refl, ap, ◌∙◌, ap₂, inl, inr, arith, Bor, lit<}
+use Rattle.std.proofs.lemmas.Str.{encode_ascii}
+use Rattle.std.proofs.lemmas.Str.Pattern.{IsSplitOnceResult, split_parts, drop_at_char}
+use Rattle.std.specs.Option.{IfSome}
+use Rattle.std.specs.Str.Pattern.{FindsCharPrefix, CutsPrefixes, IsTrimStartMatches}
 use Rattle.std.proofs.lemmas.Bool.Decides.{nat_tests}
 use Rattle.names.specs.Wire.{Octets, none}
 use Rattle.names.specs.Types.{Words}
@@ -28,30 +32,43 @@ no_mark c (x ∷ xs) n =
     let d = n 0 (omega arith) in
     (let a = ih.0 in grind (arith, nat_tests), let b = ih.1 in grind (arith, nat_tests))
 
--- a word begins where the text before the first space is not empty
-pub word_here : (s : Octets) → none (up_to 32 s) ≡ false → next_word s ≡ (up_to 32 s, past 32 s)
-word_here [] h = grind arith
-word_here (x ∷ xs) h = grind arith
+-- the parts that a text is cut into at a mark, or the whole text where it has none
+pub cut_parts : (c : ℕ) (s : Octets) (r : Option (Bor Octets × Bor Octets)) (d x : Bor Octets × Bor Octets) → IsSplitOnceResult c s r → c < 128 → d.0.now ≡ s → d.1.now ≡ [] → x ≡ unwrap_or r d → (x.0.now ≡ up_to c s) × (x.1.now ≡ past c s)
+cut_parts c s None d x h k e f g =
+    let n = no_mark c s (split_parts c s None h k) in
+    rw g (e ∙ sym n.0, f ∙ sym n.1)
+cut_parts c s (Some y) d x h k e f g =
+    let p = split_parts c s (Some y) h k in
+    let m = up_to_mark c y.0.now y.1.now p.1 in
+    rw (g, p.0) (sym m.0, sym m.1)
 
-pub word_later : (s : Octets) → none (up_to 32 s) ≡ true → next_word (past 32 s) ≡ next_word s
-word_later [] h = refl
-word_later (x ∷ xs) h = grind arith
+-- spaces cut off the front of a text
+spaces_cut : (s : Octets) (ns : List ℕ) (r : Octets) → CutsPrefixes (FindsCharPrefix 32) s ns r → next_word s ≡ next_word r
+spaces_cut s [] r e = ap next_word (sym e)
+spaces_cut s (n ∷ ns) r (m, h, p, e) = spaces_cut s ns m h ∙ ap next_word (drop_at_char 32 m 0 n p (lit< tt)) ∙ ap next_word (sym e)
 
-pub past_shorter : (c : ℕ) (s : Octets) → 0 < length s → length (past c s) < length s
-past_shorter c [] h = absurd (omega arith)
-past_shorter c (x ∷ []) h = grind arith
-past_shorter c (x ∷ (y ∷ ys)) h = let ih = past_shorter c (y ∷ ys) (omega arith) in grind arith
+-- a text that begins with no space begins with its first word
+first_word : (s : Octets) → ((rest : Octets) → s ≡ 32 ∷ rest → ⊥) → next_word s ≡ (up_to 32 s, past 32 s)
+first_word [] h = refl
+first_word (x ∷ xs) h = let n : x ≡ 32 → ⊥ = λ e. h xs (ap (λ y. y ∷ xs) e) in grind (arith, nat_tests)
+
+-- no space is left at the front of a trimmed text
+no_space : (s : Octets) (o : Option ℕ) → FindsCharPrefix 32 s o → IfSome o (λ n. n ≡ 0) → (rest : Octets) → s ≡ 32 ∷ rest → ⊥
+no_space s None h z rest e = h rest (e ∙ ap (λ t. t ++ rest) (sym (encode_ascii 32 (lit< tt))))
+no_space s (Some n) h z rest e =
+    let d : s ≡ 32 ∷ s = drop_at_char 32 s 0 n h (lit< tt) ∙ ap (λ k. 32 ∷ drop k s) z in
+    omega (arith, ap length d)
 
 pub none_length : (s : Octets) → none s ≡ eqb (length s) 0
 none_length [] = refl
 none_length (x ∷ xs) = grind (arith, nat_tests)
 
--- one turn of the search for a word
-pub word_found : (s t word tail : Octets) → word ≡ up_to 32 s → tail ≡ past 32 s → eqb (length word) 0 ≡ false → next_word s ≡ next_word t → (word, tail) ≡ next_word t
-word_found s t word tail e f n h = let w = word_here s (ap none (sym e) ∙ none_length word ∙ n) in cc
-
-pub word_next : (s t word tail : Octets) → word ≡ up_to 32 s → tail ≡ past 32 s → eqb (length word) 0 ≡ true → next_word s ≡ next_word t → next_word tail ≡ next_word t
-word_next s t word tail e f n h = ap next_word f ∙ word_later s (ap none (sym e) ∙ none_length word ∙ n) ∙ h
+-- the first word of a text whose front has been trimmed
+pub word_trimmed : (s t word tail : Octets) → IsTrimStartMatches (FindsCharPrefix 32) s t → word ≡ up_to 32 t → tail ≡ past 32 t → (word, tail) ≡ next_word s
+word_trimmed s t word tail ((ns, cuts), (o, finds, none)) before after =
+    let f = first_word t (no_space t o finds none) in
+    let g = spaces_cut s ns t cuts in
+    cc
 
 -- the words of a line with `name`
 pub name_words : (s n r t q m z : Octets) → (n, r) ≡ next_word s → (t, q) ≡ next_word r → (m, z) ≡ next_word q → name_line s ≡ two_words n t m
@@ -81,9 +98,6 @@ types_fault x e o w s h k (inr p) = inr (h ∙ ap₂ both k p.1 ∙ ap Err (sym 
 pub both_read : (x : Result Said Fault) (o : Option Octets) (w : Option Words) (s : Octets) (v : Words) → x ≡ both o w → o ≡ Some s → w ≡ Some v → x ≡ Ok (name s v)
 both_read x o w s v h k l = h ∙ ap₂ both k l
 
-pub no_command : (w r : Octets) → false ≡ eqb (length w) 0 → (w ≡ codes "list" → ⊥) → (w ≡ codes "name" → ⊥) → command w r ≡ Err NotACommand
-no_command w r e f g =
-    let a = none_length w in
-    let b = apart_from w (codes "list") f in
-    let d = apart_from w (codes "name") g in
-    grind arith
+pub no_command : (w r : Octets) → (w ≡ [] → ⊥) → (w ≡ codes "list" → ⊥) → (w ≡ codes "name" → ⊥) → command w r ≡ Err NotACommand
+no_command [] r e f g = absurd (e refl)
+no_command (x ∷ xs) r e f g = rw (apart_from (x ∷ xs) (codes "list") f, apart_from (x ∷ xs) (codes "name") g)

@@ -1,12 +1,15 @@
 -- The steps of the readers of names, as the code takes them.
-use Rattle.std.proofs.Common.{◌≡◌, ℕ, ◌+◌, ◌-◌, ◌*◌, ◌<◌, ◌≤◌, Bool, true, false, cond, eqb, [], ◌∷◌, ◌++◌, length, get_or, take, drop, Some, None, Option, sym, refl, ap, ◌∙◌, arith}
+use Rattle.std.proofs.Common.{◌≡◌, ℕ, ◌+◌, ◌-◌, ◌*◌, ◌<◌, ◌≤◌, Bool, true, false, cond, eqb, [], ◌∷◌, ◌++◌, length, get_or, take, drop, Some, None, Option, sym, refl, ap, ◌∙◌, ◌⊎◌, inl, inr, arith}
 use Rattle.std.proofs.lemmas.List.{append_assoc, take_rest}
 use Rattle.std.proofs.lemmas.Bool.Decides.{nat_tests}
 use Rattle.std.proofs.lemmas.Bool.{false≢true}
+use Rattle.std.proofs.lemmas.Option.{cond_some, none-some}
 use Rattle.std.proofs.lemmas.Cmp.{nat_list_eq_equiv}
 use Rattle.std.specs.Cmp.Lexicographic.{pointwise}
 use Rattle.names.specs.Wire.{Octets, Label}
-use Rattle.script.specs.NameText.{before, read_hex, is_hex, hex_value, read_labels, read_escape, read_name, is_plain, is_octet3, decimal3, is_whole}
+use Rattle.script.specs.declared.fault.Fault.{Fault}
+use Rattle.script.specs.declared.fault.Fault.TheVariants.{NoMemory, NotAName}
+use Rattle.script.specs.NameText.{before, read_hex, is_hex, hex_value, read_labels, read_name, is_plain, is_octet3, decimal3, is_whole}
 
 -- octets before octets before a rest
 pub before_more : (v x : Octets) (o : Option Octets) → before (v ++ x) o ≡ before v (before x o)
@@ -39,59 +42,58 @@ pub before_nothing : (o : Option Octets) → before [] o ≡ o
 before_nothing None = refl
 before_nothing (Some t) = refl
 
+failed : {A : Type 0} (b : Bool) (y : A) → cond b (Some y) None ≡ None → b ≡ false
+failed true y e = absurd (none-some y (sym e))
+failed false y e = refl
+
 dot_first : (s v : Octets) (l : Label) → 0 < length s → get_or s 0 0 ≡ 46 → is_whole l ≡ true → before v (before (length l ∷ l) (read_labels [] (drop 1 s))) ≡ before v (read_labels l s)
 dot_first [] v l h d w = absurd (omega arith)
 dot_first (x ∷ xs) v l h d w = let e : eqb x 46 ≡ true = grind (arith, nat_tests) in rw (e, w)
 
 -- a dot ends a label
-pub dot_step : (s v w : Octets) (l m : Label) → 0 < length s → get_or s 0 0 ≡ 46 → (length l ≡ 0 → ⊥) → length l ≤ 63 → w ≡ (v ++ length l ∷ []) ++ l → m ≡ [] → before w (read_labels m (take (length s - 1) (drop 1 s))) ≡ before v (read_labels l s)
-dot_step s v w l m h d n k e z =
-    let i : is_whole l ≡ true = grind (arith, nat_tests) in
-    rw (z, e, take_rest s 1, append_assoc v (length l ∷ []) l, before_more v (length l ∷ l) (read_labels [] (drop 1 s))) (dot_first s v l h d i)
+pub dot_step : (s v w : Octets) (l m : Label) → 0 < length s → get_or s 0 0 ≡ 46 → cond (is_whole l) (Some (v ++ length l ∷ l)) None ≡ Some w → m ≡ [] → before w (read_labels m (take (length s - 1) (drop 1 s))) ≡ before v (read_labels l s)
+dot_step s v w l m h d p z =
+    let i = cond_some (is_whole l) (v ++ length l ∷ l) w p in
+    rw (z, ← i.1, take_rest s 1, before_more v (length l ∷ l) (read_labels [] (drop 1 s))) (dot_first s v l h d i.0)
 
-escape_first : (s : Octets) (l : Label) → 0 < length s → get_or s 0 0 ≡ 92 → read_labels l s ≡ read_escape l (drop 1 s)
-escape_first [] l h d = absurd (omega arith)
-escape_first (x ∷ xs) l h d =
+-- or there is no name
+pub dot_fails : (s y : Octets) (l : Label) → 0 < length s → get_or s 0 0 ≡ 46 → cond (is_whole l) (Some y) None ≡ None → read_labels l s ≡ None
+dot_fails [] y l h d p = absurd (omega arith)
+dot_fails (x ∷ xs) y l h d p = let e : eqb x 46 ≡ true = grind (arith, nat_tests) in rw (e, failed (is_whole l) y p)
+
+-- a fault for want of a whole label is one for want of a name
+pub label_fault : (e : Fault) (o p : Option Octets) → (e ≡ NoMemory) ⊎ ((e ≡ NotAName) × (o ≡ None)) → (o ≡ None → p ≡ None) → (e ≡ NoMemory) ⊎ ((e ≡ NotAName) × (p ≡ None))
+label_fault e o p (inl m) h = inl m
+label_fault e o p (inr f) h = inr (f.0, h f.1)
+
+escape_four : (s : Octets) (l : Label) → 4 ≤ length s → get_or s 0 0 ≡ 92 → read_labels l s ≡ cond (is_octet3 (get_or s 1 0) (get_or s 2 0) (get_or s 3 0)) (read_labels (l ++ decimal3 (get_or s 1 0) (get_or s 2 0) (get_or s 3 0) ∷ []) (drop 4 s)) None
+escape_four [] l h d = absurd (omega arith)
+escape_four (x ∷ []) l h d = absurd (omega arith)
+escape_four (x ∷ a ∷ []) l h d = absurd (omega arith)
+escape_four (x ∷ a ∷ b ∷ []) l h d = absurd (omega arith)
+escape_four (x ∷ a ∷ b ∷ c ∷ cs) l h d =
     let e : eqb x 46 ≡ false = grind (arith, nat_tests) in
     let f : eqb x 92 ≡ true = grind (arith, nat_tests) in
     rw (e, f)
 
-escape_three : (t : Octets) (l : Label) → 3 ≤ length t → read_escape l t ≡ cond (is_octet3 (get_or t 0 0) (get_or t 1 0) (get_or t 2 0)) (read_labels (l ++ decimal3 (get_or t 0 0) (get_or t 1 0) (get_or t 2 0) ∷ []) (drop 3 t)) None
-escape_three [] l h = absurd (omega arith)
-escape_three (a ∷ []) l h = absurd (omega arith)
-escape_three (a ∷ b ∷ []) l h = absurd (omega arith)
-escape_three (a ∷ b ∷ c ∷ cs) l h = refl
-
 -- a `\` with three digits gives an octet
-pub escape_step : (s t v : Octets) (l m : Label) (x : ℕ) → 0 < length s → get_or s 0 0 ≡ 92 → t ≡ take (length s - 1) (drop 1 s) → 3 ≤ length t → Some x ≡ cond (is_octet3 (get_or t 0 0) (get_or t 1 0) (get_or t 2 0)) (Some (decimal3 (get_or t 0 0) (get_or t 1 0) (get_or t 2 0))) None → m ≡ l ++ x ∷ [] → before v (read_labels m (take (length t - 3) (drop 3 t))) ≡ before v (read_labels l s)
-escape_step s t v l m x h d e k p q =
-    let i = passed (is_octet3 (get_or t 0 0) (get_or t 1 0) (get_or t 2 0)) x (decimal3 (get_or t 0 0) (get_or t 1 0) (get_or t 2 0)) p in
-    let u : t ≡ drop 1 s = e ∙ take_rest s 1 in
-    let f : read_labels m (take (length t - 3) (drop 3 t)) ≡ cond true (read_labels (l ++ decimal3 (get_or t 0 0) (get_or t 1 0) (get_or t 2 0) ∷ []) (drop 3 t)) None = rw (q, i.1, take_rest t 3) in
-    ap (before v) (f ∙ sym (escape_first s l h d ∙ ap (read_escape l) (sym u) ∙ escape_three t l k ∙ rw i.0))
+pub escape_step : (s v : Octets) (l m : Label) (x : ℕ) → 4 ≤ length s → get_or s 0 0 ≡ 92 → Some x ≡ cond (is_octet3 (get_or s 1 0) (get_or s 2 0) (get_or s 3 0)) (Some (decimal3 (get_or s 1 0) (get_or s 2 0) (get_or s 3 0))) None → m ≡ l ++ x ∷ [] → before v (read_labels m (take (length s - 4) (drop 4 s))) ≡ before v (read_labels l s)
+escape_step s v l m x h d p q =
+    let i = passed (is_octet3 (get_or s 1 0) (get_or s 2 0) (get_or s 3 0)) x (decimal3 (get_or s 1 0) (get_or s 2 0) (get_or s 3 0)) p in
+    rw (q, i.1, take_rest s 4) (ap (before v) (sym (escape_four s l h d ∙ rw i.0)))
 
-failed : (b : Bool) (y : ℕ) → None ≡ cond b (Some y) None → b ≡ false
-failed true y e = absurd (let z : ◌≡◌ {A = ℕ} 0 1 = cc in omega arith)
-failed false y e = refl
-
--- other three characters behind it give nothing
-pub escape_fails : (s t : Octets) (l : Label) → 0 < length s → get_or s 0 0 ≡ 92 → t ≡ take (length s - 1) (drop 1 s) → 3 ≤ length t → None ≡ cond (is_octet3 (get_or t 0 0) (get_or t 1 0) (get_or t 2 0)) (Some (decimal3 (get_or t 0 0) (get_or t 1 0) (get_or t 2 0))) None → read_labels l s ≡ None
-escape_fails s t l h d e k p =
-    let i = failed (is_octet3 (get_or t 0 0) (get_or t 1 0) (get_or t 2 0)) (decimal3 (get_or t 0 0) (get_or t 1 0) (get_or t 2 0)) p in
-    escape_first s l h d ∙ ap (read_escape l) (sym (e ∙ take_rest s 1)) ∙ escape_three t l k ∙ rw i
-
-plain_first : (s : Octets) (l : Label) → 0 < length s → (get_or s 0 0 ≡ 46 → ⊥) → (get_or s 0 0 ≡ 92 → ⊥) → is_plain (get_or s 0 0) ≡ true → read_labels l s ≡ read_labels (l ++ get_or s 0 0 ∷ []) (drop 1 s)
-plain_first [] l h d b p = absurd (omega arith)
-plain_first (x ∷ xs) l h d b p =
+plain_first : (s : Octets) (l : Label) → 0 < length s → is_plain (get_or s 0 0) ≡ true → read_labels l s ≡ read_labels (l ++ get_or s 0 0 ∷ []) (drop 1 s)
+plain_first [] l h p = absurd (omega arith)
+plain_first (x ∷ xs) l h p =
     let e : eqb x 46 ≡ false = grind (arith, nat_tests) in
     let f : eqb x 92 ≡ false = grind (arith, nat_tests) in
     rw (e, f, p)
 
 -- another character stands for itself
-pub plain_step : (s v : Octets) (l m : Label) → 0 < length s → (get_or s 0 0 ≡ 46 → ⊥) → (get_or s 0 0 ≡ 92 → ⊥) → is_plain (get_or s 0 0) ≡ true → m ≡ l ++ get_or s 0 0 ∷ [] → before v (read_labels m (take (length s - 1) (drop 1 s))) ≡ before v (read_labels l s)
-plain_step s v l m h d b p q =
+pub plain_step : (s v : Octets) (l m : Label) → 0 < length s → is_plain (get_or s 0 0) ≡ true → m ≡ l ++ get_or s 0 0 ∷ [] → before v (read_labels m (take (length s - 1) (drop 1 s))) ≡ before v (read_labels l s)
+plain_step s v l m h p q =
     let f : read_labels m (take (length s - 1) (drop 1 s)) ≡ read_labels (l ++ get_or s 0 0 ∷ []) (drop 1 s) = rw (q, take_rest s 1) in
-    ap (before v) (f ∙ sym (plain_first s l h d b p))
+    ap (before v) (f ∙ sym (plain_first s l h p))
 
 -- nothing before a rest is nothing
 pub before_none : (v : Octets) (o : Option Octets) → o ≡ None → before v o ≡ None

@@ -1,6 +1,8 @@
 -- Sets of types: the turns of the loops, and that a printed set reads back.
-use Rattle.std.proofs.Common.{◌≡◌, ℕ, zero, suc, ◌+◌, ◌<◌, ◌≤◌, Bool, true, false, cond, ◌&&◌, ◌||◌, eqb, ltb, List, [], ◌∷◌, ◌++◌, length, get_or, drop, Some, None, Option, sym, refl, ap, ◌∙◌, add-one, arith}
-use Rattle.std.proofs.lemmas.List.{at_drop_more, at_drop_all, append-nil, get_or-replicate}
+use Rattle.std.proofs.Common.{◌≡◌, ℕ, zero, suc, ◌+◌, ◌<◌, ◌≤◌, Bool, true, false, cond, ◌&&◌, ◌||◌, eqb, ltb, List, [], ◌∷◌, ◌++◌, length, get_or, drop, Some, None, Option, sym, refl, ap, ◌∙◌, add-one, zero-add, arith}
+use Rattle.std.proofs.lemmas.List.{at_drop_more, at_drop_all, map-id, get_or-replicate}
+use Rattle.std.proofs.lemmas.List.FromFn.{filter_of_map_range_with_len_more}
+use Rattle.std.specs.List.{filter, range_with_len}
 use Rattle.std.proofs.lemmas.Bool.{cases_Bool, lt-ltb}
 use Rattle.std.proofs.lemmas.Bool.Decides.{nat_tests}
 use Rattle.names.proofs.TypeLaws.{has_with, has_none, with_keeps_length, with_keeps_octets, same_from_has}
@@ -26,9 +28,17 @@ set_more ws ts i h k = set_step ws ts i h ∙ grind (arith, nat_tests)
 pub set_end : (ws : Words) (ts : List ℕ) (i : ℕ) → length ts ≤ i → set_with ws (drop i ts) ≡ Some ws
 set_end ws ts i h = at_drop_all (set_with ws) ts i h
 
-pub types_more : (t : ℕ) (ws : Words) → types_below (t + 1) ws ≡ types_below t ws ++ cond (has ws t) (t ∷ []) []
+-- the types below n that a set has, chosen from all numbers below n
+types_chosen : (n : ℕ) (ws : Words) → filter (has ws) (range_with_len 0 n) ≡ types_below n ws
 unfolding types_below
-types_more t ws = ap (λ n. types_below n ws) (add-one t)
+types_chosen zero ws = refl
+types_chosen (suc t) ws =
+    let m = simp map-id at (filter_of_map_range_with_len_more (has ws) (λ x. x) 0 t t (zero-add t)) in
+    ap (λ n. filter (has ws) (range_with_len 0 n)) (sym (add-one t)) ∙ m ∙ ap (λ ts. ts ++ cond (has ws t) (t ∷ []) []) (types_chosen t ws)
+
+pub types_filtered : (ws : Words) → filter (has ws) (range_with_len 0 room) ≡ types_in ws
+unfolding types_in
+types_filtered ws = types_chosen room ws
 
 -- u is one of the types
 abbrev among : ℕ → List ℕ → Bool
@@ -104,17 +114,6 @@ set_back ws h o =
     same_from_has (with_all no_types (types_below room ws)) ws l h (λ k p. octets_all (types_below room ws) no_types none_octets k (omega arith)) (octets_at ws o) (has_back ws)
     in
     rw (room_below room ws (omega arith)) (ap Some same)
-
--- all types of a set
-pub types_all : (t : ℕ) (ws : Words) → t ≡ room → types_below t ws ≡ types_in ws
-unfolding types_in
-types_all t ws e = ap (λ n. types_below n ws) e
-
-pub types_hit : (t : ℕ) (ws : Words) (xs ys : List ℕ) → xs ≡ types_below t ws → has ws t ≡ true → ys ≡ xs ++ (t ∷ []) → ys ≡ types_below (t + 1) ws
-types_hit t ws xs ys e h f = let m = types_more t ws in f ∙ ap (λ z. z ++ (t ∷ [])) e ∙ sym (m ∙ rw h)
-
-pub types_miss : (t : ℕ) (ws : Words) (xs : List ℕ) → xs ≡ types_below t ws → has ws t ≡ false → xs ≡ types_below (t + 1) ws
-types_miss t ws xs e h = let m = types_more t ws in e ∙ sym (m ∙ rw h (append-nil (types_below t ws)))
 
 -- a printed set reads back
 pub text_back : (ws : Words) (s : Octets) → length ws ≡ width → are_octets ws ≡ true → read_types s ≡ Some (types_in ws) → read_set s ≡ Some ws

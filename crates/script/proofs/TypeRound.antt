@@ -70,9 +70,6 @@ pub types_back : (ts : List ℕ) (s : Octets) → ((i : ℕ) → get_or ts i 0 <
 types_back ts s h e = ap read_types e ∙ types_round ts (types_typed ts h)
 
 -- the steps of printing
-pub comma_text : (t t₁ t₂ u : Octets) (n : ℕ) → t₁ ≡ t ++ 44 ∷ [] → t₂ ≡ t₁ ++ u → u ≡ decimal n → t₂ ≡ t ++ 44 ∷ decimal n
-comma_text t t₁ t₂ u n e f g = f ∙ ap (λ y. y ++ u) e ∙ append_assoc t (44 ∷ []) u ∙ ap (λ y. t ++ 44 ∷ y) g
-
 pub none_text : (ts : List ℕ) → length ts < 1 → 45 ∷ [] ≡ types_text ts
 none_text [] h = refl
 none_text (t ∷ ts) h = absurd (omega arith)

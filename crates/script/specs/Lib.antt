@@ -5,3 +5,4 @@ pub mod SetText
 pub mod Lines
 pub mod LineView
 pub mod Record
+pub mod FaultText

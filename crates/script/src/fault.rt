@@ -1,7 +1,10 @@
-ghost use Rattle.std.specs.Prelude.{◌≡◌};
+ghost use Rattle.std.specs.Prelude.{◌≡◌, Some};
+ghost use Rattle.script.specs.FaultText.{fault_text};
 ghost use Rattle.script.specs.declared.fault.Fault.TheVariants.{NoMemory};
 
 use std::alloc::{AllocError, AllocFailed};
+use std::error::Error;
+use std::fmt;
 
 // Why a text was not read.
 #[derive(Clone, Copy, PartialEq, Eq, Debug)]
@@ -19,6 +22,23 @@ pub enum Fault {
     // the word is no TYPES, or a set has no room for one of them
     NotTypes,
 }
+
+impl fmt::Display for Fault {
+    ghost output = { λ fault. Some (fault_text fault) };
+
+    fn fmt<W: fmt::Write>(&self, f: &mut fmt::Formatter<W>) -> fmt::Result {
+        f.write_str(match self {
+            Fault::NoMemory => "no memory",
+            Fault::NotACommand => "no command",
+            Fault::TooFewWords => "too few words",
+            Fault::TooManyWords => "too many words",
+            Fault::NotAName => "no name in text form",
+            Fault::NotTypes => "no list of types below 128",
+        })
+    }
+}
+
+impl Error for Fault {}
 
 impl From<AllocError> for Fault {
     ghost from_gives = { λ _ y. y ≡ NoMemory };

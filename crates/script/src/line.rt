@@ -19,39 +19,20 @@ pub enum Line {
     Name(Vec<u8>, TypeSet),
 }
 
-// The text before the first space, and the text after it.
-fn cut_at_space(text: &str) -> (&str, &str)
-    ensures { (result.0.now ≡ up_to 32 text.now) × (result.1.now ≡ past 32 text.now) }
+// The text before the first mark, and the text after it. Without a mark the whole text is before it.
+fn cut(text: &str, mark: char) -> (&str, &str)
+    requires { mark < 128 }
+    ensures before { result.0.now ≡ up_to mark text.now }
+    ensures after { result.1.now ≡ past mark text.now }
 {
-    match text.split_once(' ') {
-        Some(parts) => parts,
-        None => (text, ""),
-    }
-}
-
-// The text before a `#`.
-fn uncommented(text: &str) -> &str
-    ensures { result.now ≡ up_to 35 text.now }
-{
-    match text.split_once('#') {
-        Some((code, _)) => code,
-        None => text,
-    }
+    text.split_once(mark).unwrap_or((text, ""))
 }
 
 // The first word, empty where there is none, and the text after it.
 fn next_word(text: &str) -> (&str, &str)
     ensures { (result.0.now, result.1.now) ≡ next_word text.now }
 {
-    let mut rest = text;
-    while !rest.is_empty() {
-        let (word, tail) = cut_at_space(rest);
-        if !word.is_empty() {
-            return (word, tail);
-        }
-        rest = tail;
-    }
-    ("", "")
+    cut(text.trim_start_matches(' '), ' ')
 }
 
 // The words behind `name`.
@@ -88,15 +69,12 @@ fn read_list_line(text: &str) -> Result<Line, Fault>
 pub fn read_line(heap: Global, text: &str) -> Result<Line, Fault>
     ensures { ReadsLine result (read_line text.now) }
 {
-    let (command, rest) = next_word(uncommented(text));
-    if command.is_empty() {
-        return Ok(Line::Nothing);
+    let (code, _) = cut(text, '#');
+    let (command, rest) = next_word(code);
+    match command {
+        "" => Ok(Line::Nothing),
+        "list" => read_list_line(rest),
+        "name" => read_name_line(heap, rest),
+        _ => Err(Fault::NotACommand),
     }
-    if command == "list" {
-        return read_list_line(rest);
-    }
-    if command == "name" {
-        return read_name_line(heap, rest);
-    }
-    Err(Fault::NotACommand)
 }

@@ -1,42 +1,30 @@
-ghost use Rattle.std.specs.Prelude.{◌≡◌, ◌<◌, true, [], ◌∷◌, ◌++◌, map, IfOk, if◌then◌else◌, Some, None, vec_items, string_bytes, OnOk};
+ghost use Rattle.std.specs.Prelude.{◌≡◌, length, ◌<◌, true, [], ◌∷◌, ◌++◌, map, IfOk, if◌then◌else◌, Some, None, vec_items, string_bytes, OnOk};
 ghost use Rattle.names.specs.Wire.{lower, wire};
 ghost use Rattle.names.specs.View.{labels};
-ghost use Rattle.script.specs.NameText.{are_octets, is_shown, octet_text, label_text, labels_text, name_text, read_name, read_hex, read_labels, is_hex, hex_value, is_plain, is_octet3, decimal3};
+ghost use Rattle.script.specs.NameText.{are_octets, is_shown, octet_text, label_text, labels_text, name_text, read_name, read_hex, read_labels, is_hex, hex_value, is_plain, is_octet3, decimal3, is_whole};
 ghost use Rattle.script.specs.Reads.{Reads};
 
 use crate::fault::Fault;
 use names::name::Name;
 use std::alloc::{AllocError, Global};
 
-const DOT: u8 = b'.';
-
-const BACKSLASH: u8 = b'\\';
-
-const EQUALS: u8 = b'=';
-
-const MAX_LABEL: usize = 63;
+const MAX_LABEL: u8 = 63;
 
 // A hexadecimal digit's value.
 fn hex_value(c: u8) -> Option<u8>
     ensures { result ≡ (if is_hex c then Some (hex_value c) else None) }
 {
-    match c {
-        b'0'..=b'9' => Some(c - b'0'),
-        b'A'..=b'F' => Some(c - b'A' + 10),
-        b'a'..=b'f' => Some(c - b'a' + 10),
-        _ => None,
-    }
+    char::from(c).to_digit(16).map(|digit| digit as u8)
 }
 
 // The octet that three digits write.
 fn octet3(a: u8, b: u8, c: u8) -> Option<u8>
     ensures { result ≡ (if is_octet3 a b c then Some (decimal3 a b c) else None) }
 {
-    let (b'0'..=b'9', b'0'..=b'9', b'0'..=b'9') = (a, b, c) else {
-        return None;
-    };
-    let value = 100 * u16::from(a - b'0') + 10 * u16::from(b - b'0') + u16::from(c - b'0');
-    if value > 255 { None } else { Some(value as u8) }
+    let hundreds = char::from(a).to_digit(10)?;
+    let tens = char::from(b).to_digit(10)?;
+    let ones = char::from(c).to_digit(10)?;
+    u8::try_from(100 * hundreds + 10 * tens + ones).ok()
 }
 
 // An octet that is printed as itself.
@@ -73,6 +61,18 @@ fn read_hex(heap: Global, text: &[u8]) -> Result<Vec<u8>, Fault>
     }
 }
 
+// Puts a label in wire form behind a name.
+fn push_wire(name: &mut Vec<u8>, label: &[u8]) -> Result<(), Fault>
+    ensures { Reads (λ _. name.new.items) Fault.NotAName result (if is_whole label.now then Some (name.old.items ++ length label.now ∷ label.now) else None) }
+{
+    let Ok(length @ 1..=MAX_LABEL) = u8::try_from(label.len()) else {
+        return Err(Fault::NotAName);
+    };
+    name.push(length)?;
+    name.extend_from_slice(label)?;
+    Ok(())
+}
+
 // The wire form that labels stand for.
 fn read_labels(heap: Global, text: &[u8]) -> Result<Vec<u8>, Fault>
     ensures { Reads vec_items Fault.NotAName result (read_labels [] text.now) }
@@ -80,32 +80,25 @@ fn read_labels(heap: Global, text: &[u8]) -> Result<Vec<u8>, Fault>
     let mut name = Vec::new(heap);
     let mut label = Vec::new(heap);
     let mut rest = text;
-    while let [first, tail @ ..] = rest {
-        rest = tail;
-        if *first == DOT {
-            if label.is_empty() || label.len() > MAX_LABEL {
-                return Err(Fault::NotAName);
+    loop {
+        rest = match rest {
+            [] if label.is_empty() => break,
+            [b'.', tail @ ..] => {
+                push_wire(&mut name, &label)?;
+                label.clear();
+                tail
             }
-            name.push(label.len() as u8)?;
-            name.extend_from_slice(label.as_slice())?;
-            label.clear();
-        } else if *first == BACKSLASH {
-            let [a, b, c, after @ ..] = tail else {
-                return Err(Fault::NotAName);
-            };
-            let Some(x) = octet3(*a, *b, *c) else {
-                return Err(Fault::NotAName);
-            };
-            label.push(x)?;
-            rest = after;
-        } else if is_plain(*first) {
-            label.push(*first)?;
-        } else {
-            return Err(Fault::NotAName);
-        }
-    }
-    if !label.is_empty() {
-        return Err(Fault::NotAName);
+            [b'\\', a, b, c, tail @ ..] => {
+                let octet = octet3(*a, *b, *c).ok_or(Fault::NotAName)?;
+                label.push(octet)?;
+                tail
+            }
+            [c, tail @ ..] if is_plain(*c) => {
+                label.push(*c)?;
+                tail
+            }
+            _ => return Err(Fault::NotAName),
+        };
     }
     name.push(0)?;
     Ok(name)
@@ -115,26 +108,12 @@ fn read_labels(heap: Global, text: &[u8]) -> Result<Vec<u8>, Fault>
 pub fn read_name(heap: Global, text: &str) -> Result<Vec<u8>, Fault>
     ensures { Reads vec_items Fault.NotAName result (read_name text.now) }
 {
-    let octets = text.as_bytes();
-    let [first, rest @ ..] = octets else {
-        return Err(Fault::NotAName);
-    };
-    if *first == EQUALS {
-        return read_hex(heap, rest);
+    match text.as_bytes() {
+        [] => Err(Fault::NotAName),
+        [b'=', digits @ ..] => read_hex(heap, digits),
+        [b'.'] => Ok(Vec::from_slice(heap, &[0])?),
+        octets => read_labels(heap, octets),
     }
-    if *first == DOT && rest.is_empty() {
-        return Ok(Vec::from_slice(heap, &[0])?);
-    }
-    read_labels(heap, octets)
-}
-
-// Puts a character behind a text.
-fn push_char(text: &mut String, c: u8) -> Result<(), AllocError>
-    requires { c < 128 }
-    ensures { OnOk result (string_bytes text.new ≡ string_bytes text.old ++ c ∷ []) }
-{
-    text.push(c as char)?;
-    Ok(())
 }
 
 // Puts an octet of a label behind a text.
@@ -142,12 +121,10 @@ fn push_octet(text: &mut String, x: u8) -> Result<(), AllocError>
     ensures { OnOk result (string_bytes text.new ≡ string_bytes text.old ++ octet_text x) }
 {
     if is_shown(x) {
-        return push_char(text, x);
+        text.push(char::from(x))?;
+    } else {
+        write!(text, "\\{x:03}")?;
     }
-    push_char(text, BACKSLASH)?;
-    push_char(text, b'0' + x / 100)?;
-    push_char(text, b'0' + x / 10 % 10)?;
-    push_char(text, b'0' + x % 10)?;
     Ok(())
 }
 
@@ -161,14 +138,11 @@ fn push_label(text: &mut String, label: &[u8]) -> Result<(), AllocError>
     Ok(())
 }
 
-// Says by its contract that the octets of a slice are below 256, which the checker knows where one of them is read.
+// Says by its contract that the octets of a slice are below 256, which the checker knows of a parameter.
+// Kept: without a call of it that fact stays open where `reads_back` of a name and of a set needs it.
 pub(crate) fn octets_fit(octets: &[u8])
     ensures { are_octets octets.now ≡ true }
-{
-    if !octets.is_empty() {
-        let _first = octets[0];
-    }
-}
+{}
 
 // The labels of a name, printed, each followed by a dot.
 fn labels_text(heap: Global, name: &Name<'_>) -> Result<String, AllocError>
@@ -178,13 +152,14 @@ fn labels_text(heap: Global, name: &Name<'_>) -> Result<String, AllocError>
     let mut left = *name;
     while let Some((label, up)) = left.split_first() {
         push_label(&mut text, label)?;
-        push_char(&mut text, DOT)?;
+        text.push('.')?;
         left = up;
     }
     Ok(text)
 }
 
 // A name, printed.
+// Kept: an `impl Display` of a type around the name would state the text, and has no place for `reads_back`.
 pub fn name_text(heap: Global, name: &Name<'_>) -> Result<String, AllocError>
     ensures text { IfOk result (λ s. string_bytes s ≡ name_text (labels name.now)) }
     ensures reads_back { IfOk result (λ s. read_name (string_bytes s) ≡ Some (wire (labels name.now))) }

@@ -13,10 +13,7 @@ use std::alloc::{AllocError, Global};
 pub fn record_line(heap: Global, line: &str, answer: &str) -> Result<String, AllocError>
     ensures { IfOk result (λ s. string_bytes s ≡ record_line line.now answer.now) }
 {
-    let mut text = String::from_str(heap, line)?;
-    text.push_str(" => ")?;
-    text.push_str(answer)?;
-    Ok(text)
+    format!(in heap; "{line} => {answer}")
 }
 
 // A name and its types, indented.
@@ -25,9 +22,5 @@ pub fn entry_line(heap: Global, name: &Name<'_>, types: &TypeSet) -> Result<Stri
 {
     let name = name_text(heap, name)?;
     let types = set_text(heap, types)?;
-    let mut text = String::from_str(heap, "  ")?;
-    text.push_str(&name)?;
-    text.push_str(" ")?;
-    text.push_str(&types)?;
-    Ok(text)
+    format!(in heap; "  {name} {types}")
 }

@@ -30,24 +30,7 @@ fn set_of(types: &[u16]) -> Option<TypeSet>
 fn types_of(heap: Global, set: &TypeSet) -> Result<Vec<u16>, AllocError>
     ensures { IfOk result (λ v. v.items ≡ types_in (words_in set.now)) }
 {
-    let mut types = Vec::new(heap);
-    for t in 0..ROOM {
-        if set.has(t) {
-            types.push(t)?;
-        }
-    }
-    Ok(types)
-}
-
-// Says by its contract how many octets a set has, and that they are below 256, which the checker knows where one of
-// them is read.
-fn set_fits(set: &TypeSet)
-    ensures wide { length (words_in set.now) ≡ width }
-    ensures octets { are_octets (words_in set.now) ≡ true }
-{
-    let octets = set.to_octets();
-    let _first = octets[0];
-    octets_fit(&octets);
+    (0..ROOM).filter(|t| set.has(*t)).collect(heap)
 }
 
 // The set of types that a text stands for.
@@ -59,11 +42,12 @@ pub fn read_set(heap: Global, text: &str) -> Result<TypeSet, Fault>
 }
 
 // A set of types, printed.
+// Kept: an `impl Display` of a type around the set would state the text, and has no place for `reads_back`.
 pub fn set_text(heap: Global, set: &TypeSet) -> Result<String, AllocError>
     ensures text { IfOk result (λ s. string_bytes s ≡ set_text (words_in set.now)) }
     ensures reads_back { IfOk result (λ s. read_set (string_bytes s) ≡ Some (words_in set.now)) }
 {
-    set_fits(set);
+    octets_fit(&set.to_octets());
     let types = types_of(heap, set)?;
     types_text(heap, &types)
 }

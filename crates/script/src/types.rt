@@ -35,55 +35,38 @@ const MNEMONICS: [(&str, u16); 25] = [
     ("SPF", 99),
 ];
 
-// The number of a word in a table, in either case.
-fn find(text: &str, table: &[(&str, u16)]) -> Option<u16>
-    ensures { result ≡ named text.now (map row table.now) }
-{
-    for (name, number) in table {
-        if text.eq_ignore_ascii_case(name) {
-            return Some(*number);
-        }
-    }
-    None
-}
-
-// The number of a mnemonic.
+// The number of a mnemonic, in either case.
 fn mnemonic(text: &str) -> Option<u16>
     ensures { result ≡ named text.now mnemonics }
 {
-    find(text, &MNEMONICS)
+    MNEMONICS
+        .iter()
+        .find(|(name, _)| text.eq_ignore_ascii_case(name))
+        .map(|(_, number)| *number)
 }
 
 // Whether there are only digits.
-fn are_digits(text: &[u8]) -> bool
+fn are_digits(text: &str) -> bool
     ensures { result ≡ are_digits text.now }
 {
-    for c in text {
-        if !c.is_ascii_digit() {
-            return false;
-        }
-    }
-    true
+    text.bytes().all(|c| c.is_ascii_digit())
 }
 
 // The type that a decimal number is.
 fn number(text: &str) -> Option<u16>
     ensures { result ≡ (if is_number text.now then Some (number_after 0 text.now) else None) }
 {
-    if text.len() > MAX_DIGITS || !are_digits(text.as_bytes()) {
+    if text.len() > MAX_DIGITS || !are_digits(text) {
         return None;
     }
-    text.parse::<u16>().ok()
+    text.parse().ok()
 }
 
 // The type that a text stands for.
 fn type_of(text: &str) -> Option<u16>
     ensures { result ≡ read_type text.now }
 {
-    match number(text) {
-        Some(t) => Some(t),
-        None => mnemonic(text),
-    }
+    number(text).or_else(|| mnemonic(text))
 }
 
 // The types that a text stands for.
@@ -94,29 +77,11 @@ pub(crate) fn read_types(heap: Global, text: &str) -> Result<Vec<u16>, Fault>
     if text == "-" {
         return Ok(types);
     }
-    let mut rest = text;
-    while let Some((piece, tail)) = rest.split_once(',') {
-        let Some(t) = type_of(piece) else {
-            return Err(Fault::NotTypes);
-        };
+    for piece in text.split(',') {
+        let t = type_of(piece).ok_or(Fault::NotTypes)?;
         types.push(t)?;
-        rest = tail;
     }
-    let Some(t) = type_of(rest) else {
-        return Err(Fault::NotTypes);
-    };
-    types.push(t)?;
     Ok(types)
-}
-
-// Puts a comma and a type behind a text.
-fn push_type(heap: Global, text: &mut String, t: u16) -> Result<(), AllocError>
-    ensures { OnOk result (string_bytes text.new ≡ string_bytes text.old ++ 44 ∷ decimal t) }
-{
-    let number = t.to_string(heap)?;
-    text.push(',')?;
-    text.push_str(number.as_str())?;
-    Ok(())
 }
 
 // Types, printed.
@@ -129,7 +94,7 @@ pub(crate) fn types_text(heap: Global, types: &[u16]) -> Result<String, AllocErr
     };
     let mut text = first.to_string(heap)?;
     for t in rest {
-        push_type(heap, &mut text, *t)?;
+        write!(text, ",{t}")?;
     }
     Ok(text)
 }

@@ -1,6 +1,5 @@
 use script::fault::Fault;
 use script::line::{Line, read_line};
-use std::alloc::Global;
 
 #[test]
 fn lines(rt: HostRuntime) {
@@ -8,66 +7,44 @@ fn lines(rt: HostRuntime) {
     for text in ["", "   ", "# name", "  #"] {
         assert!(rt;
             matches!(read_line(heap, text), Ok(Line::Nothing)),
-            "{}",
-            text
+            "{text}"
         );
     }
     for text in ["list", "  list  ", "list # all of them", "list#"] {
-        assert!(rt; matches!(read_line(heap, text), Ok(Line::List)), "{}", text);
+        assert!(rt; matches!(read_line(heap, text), Ok(Line::List)), "{text}");
     }
     for text in ["name . 1", "name   a.b.   A,NS # more", "name = -"] {
         assert!(rt;
             matches!(read_line(heap, text), Ok(Line::Name(_, _))),
-            "{}",
-            text
+            "{text}"
         );
-    }
-}
-
-// What is said of a line that is none.
-fn fault(heap: Global, text: &str) -> Option<Fault> {
-    match read_line(heap, text) {
-        Ok(_) => None,
-        Err(fault) => Some(fault),
     }
 }
 
 #[test]
 fn bad_lines(rt: HostRuntime) {
     let heap = rt.alloc();
-    for text in ["lists", "LIST", "names a. 1", "a.", "\tlist", "0"] {
-        assert!(rt;
-            matches!(fault(heap, text), Some(Fault::NotACommand)),
-            "{}",
-            text
-        );
-    }
-    for text in ["name", "name a.", "name a. # 1"] {
-        assert!(rt;
-            matches!(fault(heap, text), Some(Fault::TooFewWords)),
-            "{}",
-            text
-        );
-    }
-    for text in ["list a.", "name a. 1 2", "name a b. 1"] {
-        assert!(rt;
-            matches!(fault(heap, text), Some(Fault::TooManyWords)),
-            "{}",
-            text
-        );
-    }
-    for text in ["name a 1", "name a..b. 1", "name =0 x"] {
-        assert!(rt;
-            matches!(fault(heap, text), Some(Fault::NotAName)),
-            "{}",
-            text
-        );
-    }
-    for text in ["name a. x", "name a. 128", "name a. 1,,2"] {
-        assert!(rt;
-            matches!(fault(heap, text), Some(Fault::NotTypes)),
-            "{}",
-            text
-        );
+    let lines = [
+        ("lists", Fault::NotACommand),
+        ("LIST", Fault::NotACommand),
+        ("names a. 1", Fault::NotACommand),
+        ("a.", Fault::NotACommand),
+        ("\tlist", Fault::NotACommand),
+        ("0", Fault::NotACommand),
+        ("name", Fault::TooFewWords),
+        ("name a.", Fault::TooFewWords),
+        ("name a. # 1", Fault::TooFewWords),
+        ("list a.", Fault::TooManyWords),
+        ("name a. 1 2", Fault::TooManyWords),
+        ("name a b. 1", Fault::TooManyWords),
+        ("name a 1", Fault::NotAName),
+        ("name a..b. 1", Fault::NotAName),
+        ("name =0 x", Fault::NotAName),
+        ("name a. x", Fault::NotTypes),
+        ("name a. 128", Fault::NotTypes),
+        ("name a. 1,,2", Fault::NotTypes),
+    ];
+    for (text, fault) in lines {
+        assert_eq!(rt; read_line(heap, text).err(), Some(fault), "{text}");
     }
 }

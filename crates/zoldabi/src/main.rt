@@ -6,8 +6,8 @@ mod kept;
 mod words;
 
 use crate::kept::Kept;
-use crate::words::{fault_words, refusal_words};
-use anyhow::anyhow;
+use crate::words::refusal_words;
+use anyhow::Context;
 use names::name::Name;
 use names::refusal::Refusal;
 use names::types::TypeSet;
@@ -28,16 +28,15 @@ fn script_text(rt: &HostRuntime) -> io::Result<String> {
     }
 }
 
-// Finds the first line that is none.
-fn check_lines(heap: Global, text: &str) -> anyhow::Result<()> {
-    for (i, line) in text.lines().enumerate() {
-        if let Err(fault) = read_line(heap, line) {
-            let number = i.saturating_add(1);
-            let words = fault_words(fault);
-            return Err(anyhow!(format!(in heap; "line {number}: {words}")?));
-        }
+// The lines of a script, each with what it says.
+fn read_lines<'a>(heap: Global, script: &'a str) -> anyhow::Result<Vec<(&'a str, Line)>> {
+    let mut lines = Vec::new(heap);
+    for text in script.lines() {
+        let number = lines.len() + 1;
+        let line = read_line(heap, text).context(format_args!("line {number}"))?;
+        lines.push((text, line))?;
     }
-    Ok(())
+    Ok(lines)
 }
 
 fn refused(heap: Global, refusal: Refusal) -> Result<String, AllocError> {
@@ -48,13 +47,13 @@ fn refused(heap: Global, refusal: Refusal) -> Result<String, AllocError> {
 
 // The label count and the lower-case form of a name; it is kept. Refused are types that neither the rule for an apex nor
 // that for other names allows it.
-fn answer_name(
+fn answer_name<'a>(
     heap: Global,
-    kept: &mut Kept,
-    octets: Vec<u8>,
+    kept: &mut Kept<'a>,
+    octets: &'a [u8],
     types: TypeSet,
 ) -> Result<String, AllocError> {
-    let name = match Name::read(&octets) {
+    let name = match Name::read(octets) {
         Ok(name) => name,
         Err(refusal) => return refused(heap, refusal),
     };
@@ -63,39 +62,34 @@ fn answer_name(
     }
     let count = name.label_count();
     let text = name_text(heap, &name)?;
-    kept.put(octets, types)?;
+    kept.put(name, types)?;
     format!(in heap; "{count} {text}")
 }
 
 // The number of the names so far, and a line for each in canonical order.
-fn answer_list(heap: Global, kept: &Kept) -> Result<String, AllocError> {
+fn answer_list(heap: Global, kept: &Kept<'_>) -> Result<String, AllocError> {
     let entries = kept.entries();
     let count = entries.len();
     let mut answer = format!(in heap; "{count}")?;
-    for entry in entries {
-        let Ok(name) = Name::read(entry.octets()) else {
-            continue;
-        };
-        let line = entry_line(heap, &name, &entry.types())?;
-        answer.push_str("\n")?;
-        answer.push_str(&line)?;
+    for (name, types) in entries {
+        let line = entry_line(heap, name, types)?;
+        write!(answer, "\n{line}")?;
     }
     Ok(answer)
 }
 
 fn run(rt: &HostRuntime) -> anyhow::Result<()> {
     let heap = rt.alloc();
-    let text = script_text(rt)?;
-    check_lines(heap, &text)?;
+    let script = script_text(rt)?;
+    let lines = read_lines(heap, &script)?;
     let mut kept = Kept::new(heap);
-    for line in text.lines() {
-        let answer = match read_line(heap, line) {
-            Ok(Line::Name(octets, types)) => answer_name(heap, &mut kept, octets, types)?,
-            Ok(Line::List) => answer_list(heap, &kept)?,
-            Ok(Line::Nothing) => continue,
-            Err(fault) => return Err(anyhow!(fault_words(fault))),
+    for (text, line) in &lines {
+        let answer = match line {
+            Line::Nothing => continue,
+            Line::List => answer_list(heap, &kept)?,
+            Line::Name(octets, types) => answer_name(heap, &mut kept, octets, *types)?,
         };
-        let record = record_line(heap, line, &answer)?;
+        let record = record_line(heap, text, &answer)?;
         println!(rt; "{record}")?;
     }
     Ok(())
@@ -103,7 +97,7 @@ fn run(rt: &HostRuntime) -> anyhow::Result<()> {
 
 fn main(rt: HostRuntime) -> anyhow::Result<ExitCode> {
     if let Err(error) = run(&rt) {
-        eprintln!(rt; "zoldabi: {error}")?;
+        eprintln!(rt; "zoldabi: {error:#}")?;
         return Ok(ExitCode::FAILURE);
     }
     Ok(ExitCode::SUCCESS)

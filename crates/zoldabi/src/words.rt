@@ -1,17 +1,5 @@
-// What is said of a fault or a refusal.
+// What is said of a refusal.
 use names::refusal::Refusal;
-use script::fault::Fault;
-
-pub(crate) fn fault_words(fault: Fault) -> &'static str {
-    match fault {
-        Fault::NoMemory => "no memory",
-        Fault::NotACommand => "no command",
-        Fault::TooFewWords => "too few words",
-        Fault::TooManyWords => "too many words",
-        Fault::NotAName => "no name in text form",
-        Fault::NotTypes => "no list of types below 128",
-    }
-}
 
 pub(crate) fn refusal_words(refusal: Refusal) -> &'static str {
     match refusal {

@@ -1,7 +1,7 @@
-use Rattle.std.proofs.Common.{sym}
+use Rattle.std.proofs.Common.{string_bytes, arith}
 use Rattle.script.proofs.NamePrint.{escaped_text}
 use Rattle.script.proofs.name.push_octet.Goals as goal
 
-pub returns : goal.returns
-returns c =
-    escaped_text _ _ _ _ _ c.args.x (sym c.if-is_shown.ensures) c.in_ok-push_char.ensures c.in_ok-push_char-2.ensures c.in_ok-push_char-3.ensures c.in_ok-push_char-4.ensures
+pub returns-in_ok-write : goal.returns-in_ok-write
+returns-in_ok-write c =
+    escaped_text (string_bytes c.args.text.now) _ c.args.x (omega arith) c.if-is_shown.ensures (rw c.laid_out.ensures at c.in_ok-write.ensures.bytes)

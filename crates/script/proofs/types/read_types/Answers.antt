@@ -1,35 +1,38 @@
-use Rattle.std.proofs.Common.{vec_items, sym, refl, ◌∙◌, inr, arith, rules}
-use Rattle.std.proofs.lemmas.Str.Pattern.{split_parts}
-use Rattle.std.proofs.lemmas.Option.{MatchOption-at_some, MatchOption-at_none}
-use Rattle.script.proofs.NameSteps.{before_none, differs}
-use Rattle.script.proofs.TypeSteps.{piece_step, piece_fails, last_step, last_fails, not_dash, NoComma}
+use Rattle.std.proofs.Common.{rules, refl, sym, ◌∙◌, inr, length, vec_items}
+use Rattle.std.proofs.lemmas.Iterator.Consumers.{YieldsList-turn, YieldsList-end}
+use Rattle.std.proofs.lemmas.List.{length_push}
+use Rattle.std.proofs.lemmas.Result.{err_from_is_err_and}
+use Rattle.script.proofs.NameSteps.{differs}
+use Rattle.script.proofs.TypeSteps.{pieces, yields_pieces, pieces_none, pieces_more, pieces_fail, pieces_end, not_dash}
 use Rattle.script.proofs.types.read_types.Goals as goal
 
-pub returns-in_default-type_of : goal.returns-in_default-type_of
-returns-in_default-type_of c =
-    let p = MatchOption-at_some _ _ (c.in-Some.piece, c.in-Some.tail) c.in-Some.is (split_parts 44 c.loop-piece.rest.now c.split_once.result c.split_once.ensures.cases (omega arith)) in
-    let f = piece_fails c.loop-piece.rest.now c.in-Some.piece.now c.in-Some.tail.now p.0 p.1 c.in_default-type_of.ensures in
-    inr (refl, not_dash c.args.text.now (differs _ _ c.if-eq.ensures) ∙ sym c.loop-piece.invariant.1 ∙ before_none _ _ f)
+pub loop-piece-init : goal.loop-piece-init
+loop-piece-init c = record {
+  can_next = search rules;
+  is_finite = search rules;
+  so_far = pieces_none c.args.text.now _ 0 c.new-types.ensures.items refl;
+}
 
 pub loop-piece-preserved : goal.loop-piece-preserved
 loop-piece-preserved c =
-    let p = MatchOption-at_some _ _ (c.in-Some.piece, c.in-Some.tail) c.in-Some.is (split_parts 44 c.loop-piece.rest.now c.split_once.result c.split_once.ensures.cases (omega arith)) in (
-      search rules,
-      piece_step c.loop-piece.rest.now c.in-Some.piece.now c.in-Some.tail.now (vec_items c.loop-piece.types) (vec_items c.push.new.self) c.in-Some-type_of.t p.0 p.1 c.in-Some-type_of.ensures c.in_ok-push.ensures.items
-          ∙ c.loop-piece.invariant.1,
-    )
+    let t = YieldsList-turn (yields_pieces _ _ c.args.text.now c.into_iter-piece-iterator.ensures.into_iter_gives c.split-piece-items.ensures.text c.split-piece-items.ensures.has_more c.split-piece-items.ensures.pattern) c.loop-piece.yielded _ c.loop-piece.yielded_by _ _ c.in-Some.piece c.in-Some.is c.next.ensures.steps in
+    record {
+      can_next = search rules;
+      is_finite = search rules;
+      so_far = pieces_more (pieces c.args.text.now) _ _ _ _ _ _ t (search rules) c.in_ok-push.ensures.items (length_push c.loop-piece.yielded c.in-Some.piece) ∙ c.loop-piece.invariant.so_far;
+    }
 
-pub returns-in_default-type_of-2 : goal.returns-in_default-type_of-2
-returns-in_default-type_of-2 c =
-    let n : NoComma c.loop-piece.rest.now = MatchOption-at_none _ _ c.in_default.is (split_parts 44 c.loop-piece.rest.now c.split_once.result c.split_once.ensures.cases (omega arith)) in
-    inr (
-      refl,
-      not_dash c.args.text.now (differs _ _ c.if-eq.ensures)
-          ∙ last_fails c.loop-piece.rest.now (vec_items c.loop-piece.types) _ n c.in_default-type_of-2.ensures c.loop-piece.invariant.1,
-    )
+pub returns-in_err-t : goal.returns-in_err-t
+returns-in_err-t c =
+    let t = YieldsList-turn (yields_pieces _ _ c.args.text.now c.into_iter-piece-iterator.ensures.into_iter_gives c.split-piece-items.ensures.text c.split-piece-items.ensures.has_more c.split-piece-items.ensures.pattern) c.loop-piece.yielded _ c.loop-piece.yielded_by _ _ c.in-Some.piece c.in-Some.is c.next.ensures.steps in
+    let f = pieces_fail (pieces c.args.text.now) (length c.loop-piece.yielded) c.in-Some.piece.now (vec_items c.loop-piece.types) t (search rules) in
+    let p = err_from_is_err_and c.from_residual.result c.from_residual.ensures.1 in
+    rw (p.1, p.2)
+    (inr (search rules, not_dash c.args.text.now (differs _ _ c.if-eq.ensures) ∙ sym c.loop-piece.invariant.so_far ∙ f))
 
 pub returns : goal.returns
 returns c =
-    let n : NoComma c.loop-piece.rest.now = MatchOption-at_none _ _ c.in_default.is (split_parts 44 c.loop-piece.rest.now c.split_once.result c.split_once.ensures.cases (omega arith)) in
+    let t = YieldsList-end (yields_pieces _ _ c.args.text.now c.into_iter-piece-iterator.ensures.into_iter_gives c.split-piece-items.ensures.text c.split-piece-items.ensures.has_more c.split-piece-items.ensures.pattern) c.loop-piece.yielded _ c.loop-piece.yielded_by _ _ c.in-None.is c.next.ensures.steps in
     not_dash c.args.text.now (differs _ _ c.if-eq.ensures)
-    ∙ last_step c.loop-piece.rest.now (vec_items c.loop-piece.types) (vec_items c.push-2.new.self) _ c.in-Some-type_of-2.t n c.in-Some-type_of-2.ensures c.loop-piece.invariant.1 c.in_ok-push-2.ensures.items
+    ∙ sym c.loop-piece.invariant.so_far
+    ∙ pieces_end (pieces c.args.text.now) (length c.loop-piece.yielded) (vec_items c.loop-piece.types) t.1

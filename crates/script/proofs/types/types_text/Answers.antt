@@ -17,7 +17,7 @@ returns-in_default c =
 pub loop-t-preserved : goal.loop-t-preserved
 loop-t-preserved c =
     let ts = take (length c.args.types.now - 1) (drop 1 c.args.types.now) in
-    further_more c.loop-t.t-index ts (string_bytes c.loop-t.text) (string_bytes c.push_type.new.text) (omega arith) c.in_ok-push_type.ensures
+    further_more c.loop-t.t-index ts (string_bytes c.loop-t.text) (string_bytes c.write.new.self) (omega arith) c.in_ok-write.ensures.bytes
     ∙ c.loop-t.invariant
 
 pub returns : goal.returns
