@@ -6,6 +6,7 @@ use Rattle.std.proofs.lemmas.Bool.Decides.{nat_tests}
 use Rattle.std.proofs.lemmas.Fmt.{decimal_digit, decimal_step}
 use Rattle.std.specs.Char as text
 use Rattle.std.specs.Fmt.{padded_integral, format_spec, styled_decimal, char_count}
+use Rattle.names.proofs.Slices.{ascii_lower}
 use Rattle.names.specs.Wire.{wire, Octets, Labels, lower, split, labels_of}
 use Rattle.names.proofs.Reader.{labels_whole}
 use Rattle.script.proofs.NameRound.{name_round}
@@ -49,11 +50,8 @@ pub escaped_text : (t u : Octets) (x : ℕ) → x < 256 → false ≡ is_shown x
 escaped_text t u x f h w =
     w ∙ ap (λ y. t ++ 92 ∷ y) (digits_three x f) ∙ ap (λ b. t ++ cond b (x ∷ []) (92 ∷ (48 + x / 100) ∷ (48 + x / 10 % 10) ∷ (48 + x % 10) ∷ [])) h
 
-lower_same : (x : ℕ) → text.to_ascii_lowercase x ≡ lower x
-lower_same x = grind (arith, nat_tests)
-
 label_first : (s t u : Octets) (x y : ℕ) → u ≡ t ++ octet_text y → y ≡ text.to_ascii_lowercase x → u ++ label_text (map lower s) ≡ t ++ label_text (map lower (x ∷ s))
-label_first s t u x y e f = rw (e, f, lower_same x) (append_assoc t (octet_text (lower x)) (label_text (map lower s)))
+label_first s t u x y e f = rw (e, f, ascii_lower x) (append_assoc t (octet_text (lower x)) (label_text (map lower s)))
 
 -- one more octet of a label is printed
 pub label_more : (i : ℕ) (l t u : Octets) (y : ℕ) → i < length l → u ≡ t ++ octet_text y → y ≡ text.to_ascii_lowercase (get_or l i 0) → u ++ label_text (map lower (drop (i + 1) l)) ≡ t ++ label_text (map lower (drop i l))
@@ -62,14 +60,6 @@ label_more i l t u y h e f = label_first (drop (i + 1) l) t u (get_or l i 0) y e
 -- the whole label is printed
 pub label_all : (i : ℕ) (l t : Octets) → length l ≤ i → t ≡ t ++ label_text (map lower (drop i l))
 label_all i l t h = rw (drop_all i l h) (sym (append-nil t))
-
--- one more label is printed
-pub label_step : (s l next t t₁ t₂ : Octets) → labels_of s ≡ map lower l ∷ labels_of next → t₁ ≡ t ++ label_text (map lower l) → t₂ ≡ t₁ ++ 46 ∷ [] → t₂ ++ labels_text (labels_of next) ≡ t ++ labels_text (labels_of s)
-label_step s l next t t₁ t₂ e p q = rw (q, p, e) (simp append_assoc)
-
--- no label is left
-pub labels_end : (s t u : Octets) → labels_of s ≡ [] → t ++ labels_text (labels_of s) ≡ u → t ≡ u
-labels_end s t u n e = sym (append-nil t) ∙ rw n at e
 
 -- a name with labels
 pub some_labels : (n : Labels) → (length n ≡ 0 → ⊥) → labels_text n ≡ name_text n

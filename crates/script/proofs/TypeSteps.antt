@@ -4,7 +4,7 @@ use Rattle.std.proofs.lemmas.List.{append_assoc, append-nil, at_drop_more, at_dr
 use Rattle.std.proofs.lemmas.Bool.{cases_Bool, false≢true}
 use Rattle.std.proofs.lemmas.Bool.Decides.{nat_tests}
 use Rattle.std.specs.Char.{to_ascii_lowercase}
-use Rattle.names.proofs.Reader.{same_octets_true, same_octets_refl}
+use Rattle.names.specs.Orders.{octets_decide}
 use Rattle.names.specs.Wire.{Octets, same_octets}
 use Rattle.script.specs.Reads.{row}
 use Rattle.std.proofs.lemmas.Str.Parse.{IsNumeralModel, numerals_by_fold}
@@ -22,10 +22,10 @@ use Rattle.script.proofs.NameSteps.{before_more, before_nothing}
 use Rattle.script.specs.TypeText.{named, are_digits, number_after, is_number, read_type, read_types, read_pieces, one_more}
 
 pub same_from : (a b : Octets) → a ≡ b → same_octets a b ≡ true
-same_from a b e = rw e (same_octets_refl b)
+same_from a b e = rw e (((octets_decide b b).1 refl))
 
 apart_by : (a b : Octets) (t : Bool) → same_octets a b ≡ t → (a ≡ b → ⊥) → t ≡ false
-apart_by a b true e n = absurd (n (same_octets_true a b e))
+apart_by a b true e n = absurd (n (((octets_decide a b).0) e))
 apart_by a b false e n = refl
 
 pub apart_from : (a b : Octets) → (a ≡ b → ⊥) → same_octets a b ≡ false

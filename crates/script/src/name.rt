@@ -149,11 +149,9 @@ fn labels_text(heap: Global, name: &Name<'_>) -> Result<String, AllocError>
     ensures { IfOk result (λ s. string_bytes s ≡ labels_text (labels name.now)) }
 {
     let mut text = String::new(heap);
-    let mut left = *name;
-    while let Some((label, up)) = left.split_first() {
+    for label in name.labels() {
         push_label(&mut text, label)?;
         text.push('.')?;
-        left = up;
     }
     Ok(text)
 }

@@ -23,7 +23,7 @@ impl<'a> Kept<'a> {
     pub(crate) fn put(&mut self, name: Name<'a>, types: TypeSet) -> Result<(), AllocError> {
         match self
             .entries
-            .binary_search_by(|(held, _)| held.compare(&name))
+            .binary_search_by(|(held, _)| held.cmp(&name))
         {
             Ok(i) => self.entries[i] = (name, types),
             Err(i) => self.entries.insert(i, (name, types))?,

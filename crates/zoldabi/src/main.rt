@@ -3,10 +3,8 @@
 #![tactic(auto)]
 
 mod kept;
-mod words;
 
 use crate::kept::Kept;
-use crate::words::refusal_words;
 use anyhow::Context;
 use names::name::Name;
 use names::refusal::Refusal;
@@ -41,8 +39,7 @@ fn read_lines<'a>(heap: Global, script: &'a str) -> anyhow::Result<Vec<(&'a str,
 
 fn refused(heap: Global, refusal: Refusal) -> Result<String, AllocError> {
     let number = refusal.number();
-    let words = refusal_words(refusal);
-    format!(in heap; "refused {number}: {words}")
+    format!(in heap; "refused {number}: {refusal}")
 }
 
 // The label count and the lower-case form of a name; it is kept. Refused are types that neither the rule for an apex nor
