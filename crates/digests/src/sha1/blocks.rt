@@ -25,10 +25,13 @@ fn words_of(block: &[u8; BLOCK]) -> [u32; 16]
 }
 
 // The hash value after blocks.
-fn absorb(s: State, blocks: &[[u8; BLOCK]]) -> State
+fn absorb(mut s: State, blocks: &[[u8; BLOCK]]) -> State
     ensures { result ≡ absorbed s blocks.now }
 {
-    blocks.iter().map(words_of).fold(s, compress)
+    for block in blocks {
+        s = compress(s, words_of(block));
+    }
+    s
 }
 
 // Octets in two parts, which count as joined.
