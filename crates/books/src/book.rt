@@ -48,6 +48,7 @@ pub trait Book {
         ensures { option_map words result ≡ option_map (λ e. e.1) (entry self.now slot) };
 
     // The name in a slot, in lower case, to the front of a buffer, and its length; what lies past it stays.
+    // Kept: a buffer of the caller and a length, since the library has no heap.
     fn write_name(&self, slot: usize, out: &mut [u8; MAX_NAME]) -> Option<usize>
         ensures value { result ≡ option_map (λ e. length (wire e.0)) (entry self.now slot) }
         ensures buffer { out.new ≡ name_written (entry self.now slot) out.old };

@@ -8,6 +8,7 @@ use names::types::TypeSet;
 mod slots;
 
 // The first `len` octets are the name, the others are 0.
+// Kept: a buffer with its length beside it, since the library has no heap and entries lie in slots that are lent.
 #[derive(Clone, Copy)]
 pub struct Named {
     octets: [u8; MAX_NAME],

@@ -13,6 +13,7 @@ pub trait Digest {
 
     // Writes the digest of a and b joined to the front of the buffer, and answers how many octets that is. What lies
     // past them stays.
+    // Kept: a buffer of the caller and a length, since the library has no heap.
     fn digest(&self, a: &[u8], b: &[u8], out: &mut [u8; 255]) -> usize
         ensures value { result ≡ LEN }
         ensures buffer { out.new ≡ hash (a.now ++ b.now) ++ drop LEN out.old };

@@ -1,6 +1,6 @@
 // Why a call is refused.
 ghost use Rattle.std.specs.Prelude.{◌≡◌, Some};
-ghost use Rattle.names.specs.Refusals.{number, words};
+ghost use Rattle.names.specs.Refusals.{number, refusal_text};
 
 use std::error::Error;
 use std::fmt;
@@ -58,6 +58,7 @@ pub enum Refusal {
 
 impl Refusal {
     // The number by which a host knows the refusal.
+    // Kept: no `From` to a number, since at a call `number` says what the number is.
     pub fn number(&self) -> u8
         ensures { result ≡ number self.now }
     {
@@ -90,7 +91,7 @@ impl Refusal {
 }
 
 impl fmt::Display for Refusal {
-    ghost output = { λ r. Some (words r) };
+    ghost output = { λ refusal. Some (refusal_text refusal) };
 
     fn fmt<W: fmt::Write>(&self, f: &mut fmt::Formatter<W>) -> fmt::Result {
         f.write_str(match self {

@@ -6,6 +6,7 @@ mod members;
 mod octets;
 mod rules;
 
+// Kept: numbers and no enum, since each number of 16 bits is a type, also those that no rule names (RFC 3597).
 pub const NS: u16 = 2;
 
 pub const SOA: u16 = 6;

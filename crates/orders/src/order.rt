@@ -43,6 +43,7 @@ pub trait Order {
         ensures { result ≡ beneath self.now a.now b.now };
 
     // The place of a name to the front of a buffer, and its length; what lies past it stays.
+    // Kept: a buffer of the caller and a length, since the library has no heap.
     fn write_place(&self, name: &[u8], out: &mut [u8; MAX_NAME]) -> Result<usize, Refusal>
         ensures value { result ≡ of_name name.now (λ n. Ok (length (place self.now n))) }
         ensures buffer { out.new ≡ place_written (place self.now) name.now out.old };

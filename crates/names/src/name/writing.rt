@@ -18,6 +18,7 @@ fn write_front(s: &[u8], out: &mut [u8])
 
 impl Name<'_> {
     // The wire form in lower case to the front of a buffer, and its length; what lies past it stays.
+    // Kept: a buffer of the caller and a length, here and below, since the library has no heap.
     pub fn write_lower(&self, out: &mut [u8; MAX_NAME]) -> usize
         ensures value { result ≡ length (octets_in self.now) }
         ensures buffer { out.new ≡ written (map lower (octets_in self.now)) out.old }
