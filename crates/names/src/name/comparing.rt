@@ -7,7 +7,6 @@ ghost use Rattle.names.specs.View.{labels as labels_in};
 ghost use Rattle.names.specs.Wire.{lower, labels_of};
 
 use crate::name::Name;
-use crate::name::reading::first_label;
 use std::cmp::Ordering;
 
 // Two labels, octet by octet in lower case.
@@ -27,19 +26,14 @@ struct Meeting {
 }
 
 // The same for names of equally many labels. From left to right: what the rightmost two labels that differ say remains.
-fn meet_level(a: &[u8], b: &[u8]) -> Meeting
-    requires { length (labels_of a.now) ≡ length (labels_of b.now) }
-    ensures shared { result.shared ≡ shared_labels (labels_of a.now) (labels_of b.now) }
-    ensures order { result.order ≡ canonical_order (labels_of a.now) (labels_of b.now) }
+fn meet_level(a: &Name<'_>, b: &Name<'_>) -> Meeting
+    requires { length (labels_in a.now) ≡ length (labels_in b.now) }
+    ensures shared { result.shared ≡ shared_labels (labels_in a.now) (labels_in b.now) }
+    ensures order { result.order ≡ canonical_order (labels_in a.now) (labels_in b.now) }
 {
     let mut shared = 0;
     let mut order = Ordering::Equal;
-    let mut left = a;
-    let mut right = b;
-    while let Some((x, xs)) = first_label(left) {
-        let Some((y, ys)) = first_label(right) else {
-            break;
-        };
+    for (x, y) in a.labels().zip(b.labels()) {
         match compare_labels(x, y) {
             Ordering::Equal => shared += 1,
             found => {
@@ -47,8 +41,6 @@ fn meet_level(a: &[u8], b: &[u8]) -> Meeting
                 order = found;
             }
         }
-        left = xs;
-        right = ys;
     }
     Meeting { shared, order }
 }
@@ -61,10 +53,7 @@ fn meet(a: &Name<'_>, b: &Name<'_>) -> Meeting
     let m = a.label_count();
     let n = b.label_count();
     let fewer = m.min(n);
-    let Meeting { shared, order } = meet_level(
-        a.without(m - fewer).octets,
-        b.without(n - fewer).octets,
-    );
+    let Meeting { shared, order } = meet_level(&a.without(m - fewer), &b.without(n - fewer));
     let order = match order {
         Ordering::Equal => m.cmp(&n),
         found => found,
