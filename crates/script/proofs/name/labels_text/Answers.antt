@@ -1,12 +1,9 @@
 use Rattle.std.proofs.Common.{string_bytes, sym, ◌∙◌}
 use lib.Utf8.{encode}
 use Rattle.names.specs.View.{octets}
-use Rattle.names.proofs.Reader.{labels_first, labels_none, rest_shorter}
+use Rattle.names.proofs.Reader.{labels_first, labels_none}
 use Rattle.script.proofs.NamePrint.{label_step, labels_end}
 use Rattle.script.proofs.name.labels_text.Goals as goal
-
-pub loop-label-smaller : goal.loop-label-smaller
-loop-label-smaller c = rest_shorter (octets c.loop-label.left) _ _ (sym c.in-Some.ensures)
 
 pub loop-label-preserved : goal.loop-label-preserved
 unfolding encode
