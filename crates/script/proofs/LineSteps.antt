@@ -1,5 +1,5 @@
 -- The steps of the reader of lines.
-use Rattle.std.proofs.Common.{◌≡◌, ℕ, suc, ◌<◌, true, false, cond, eqb, ◌⊎◌, List, [], ◌∷◌, ◌++◌, length, get_or, drop, Some, None, Ok, Err, codes, Option, Result, unwrap_or, sym, refl, ap, ◌∙◌, ap₂, inl, inr, arith, Bor, lit<}
+use Rattle.std.proofs.Common.{◌≡◌, ℕ, suc, ◌<◌, true, false, eqb, ◌⊎◌, List, [], ◌∷◌, ◌++◌, length, get_or, drop, Some, None, Ok, Err, codes, Option, Result, unwrap_or, sym, refl, ap, ◌∙◌, ap₂, inl, inr, arith, Bor, lit<}
 use Rattle.std.proofs.lemmas.Str.{encode_ascii}
 use Rattle.std.proofs.lemmas.Str.Pattern.{IsSplitOnceResult, split_parts, drop_at_char}
 use Rattle.std.specs.Option.{IfSome}
@@ -11,8 +11,8 @@ use Rattle.script.proofs.TypeSteps.{apart_from}
 use Rattle.script.specs.NameText.{read_name}
 use Rattle.script.specs.SetText.{read_set}
 use Rattle.script.specs.declared.fault.Fault.{Fault}
-use Rattle.script.specs.declared.fault.Fault.TheVariants.{NoMemory, NotACommand, TooManyWords, NotAName, NotTypes}
-use Rattle.script.specs.Lines.{up_to, past, next_word, Said, list, name, both, two_words, name_line, list_line, command, read_line}
+use Rattle.script.specs.declared.fault.Fault.TheVariants.{NoMemory, NotACommand, NotTypes}
+use Rattle.script.specs.Lines.{up_to, past, next_word, Said, name, both, two_words, name_line, command, read_line}
 
 -- c is not among the characters
 abbrev pub Without : ℕ → Octets → Type 0
@@ -74,22 +74,11 @@ word_trimmed s t word tail ((ns, cuts), (o, finds, none)) before after =
 pub name_words : (s n r t q m z : Octets) → (n, r) ≡ next_word s → (t, q) ≡ next_word r → (m, z) ≡ next_word q → name_line s ≡ two_words n t m
 name_words s n r t q m z e f g = rw (← e, ← f, ← g)
 
-pub list_words : (s m z : Octets) → (m, z) ≡ next_word s → list_line s ≡ cond (none m) (Ok list) (Err TooManyWords)
-list_words s m z e = rw (← e)
-
 pub line_words : (s c w r : Octets) → c ≡ up_to 35 s → (w, r) ≡ next_word c → read_line s ≡ command w r
 line_words s c w r e f = rw (← e, ← f)
 
-pub words_many : (n t m : Octets) → false ≡ eqb (length t) 0 → false ≡ eqb (length m) 0 → two_words n t m ≡ Err TooManyWords
-words_many n t m e f = let a = none_length t in let b = none_length m in grind arith
-
 pub words_two : (n t m : Octets) → false ≡ eqb (length t) 0 → true ≡ eqb (length m) 0 → two_words n t m ≡ both (read_name n) (read_set t)
 words_two n t m e f = let a = none_length t in let b = none_length m in grind arith
-
--- a fault of the name, and one of the types
-pub name_fault : (x : Result Said Fault) (e : Fault) (o : Option Octets) (w : Option Words) → x ≡ both o w → (e ≡ NoMemory) ⊎ ((e ≡ NotAName) × (o ≡ None)) → (e ≡ NoMemory) ⊎ (x ≡ Err e)
-name_fault x e o w h (inl m) = inl m
-name_fault x e o w h (inr p) = inr (h ∙ ap (λ u. both u w) p.1 ∙ ap Err (sym p.0))
 
 pub types_fault : (x : Result Said Fault) (e : Fault) (o : Option Octets) (w : Option Words) (s : Octets) → x ≡ both o w → o ≡ Some s → (e ≡ NoMemory) ⊎ ((e ≡ NotTypes) × (w ≡ None)) → (e ≡ NoMemory) ⊎ (x ≡ Err e)
 types_fault x e o w s h k (inl m) = inl m

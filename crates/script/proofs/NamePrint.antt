@@ -1,16 +1,13 @@
 -- The steps of printing a name, and what a name's labels are.
-use Rattle.std.proofs.Common.{◌≡◌, ℕ, zero, suc, ◌+◌, ◌/◌, ◌%◌, ◌<◌, ◌≤◌, true, false, [], ◌∷◌, ◌++◌, map, length, get_or, drop, decimal, cond, ⊎_elim, ◌-◌, ◌^◌, Some, sym, refl, ap, ◌∙◌, arith}
-use Rattle.std.proofs.lemmas.List.{append_assoc, append-nil, drop_more, drop_all}
+use Rattle.std.proofs.Common.{◌≡◌, ℕ, zero, suc, ◌+◌, ◌/◌, ◌%◌, ◌<◌, ◌≤◌, true, false, [], ◌∷◌, ◌++◌, length, get_or, decimal, cond, ⊎_elim, ◌-◌, ◌^◌, Some, refl, ap, ◌∙◌, arith}
 use Rattle.std.proofs.lemmas.Bool.{cases_lt}
 use Rattle.std.proofs.lemmas.Bool.Decides.{nat_tests}
 use Rattle.std.proofs.lemmas.Fmt.{decimal_digit, decimal_step}
-use Rattle.std.specs.Char as text
 use Rattle.std.specs.Fmt.{padded_integral, format_spec, styled_decimal, char_count}
-use Rattle.names.proofs.Slices.{ascii_lower}
 use Rattle.names.specs.Wire.{wire, Octets, Labels, lower, split, labels_of}
 use Rattle.names.proofs.Reader.{labels_whole}
 use Rattle.script.proofs.NameRound.{name_round}
-use Rattle.script.specs.NameText.{read_name, octet_text, label_text, labels_text, name_text, is_shown, are_octets, are_octet_labels}
+use Rattle.script.specs.NameText.{read_name, octet_text, labels_text, name_text, is_shown, are_octets, are_octet_labels}
 
 -- the decimal numbers of two and of three digits
 two_digits : (x : ℕ) → 10 ≤ x → x < 100 → decimal x ≡ (48 + x / 10) ∷ (48 + x % 10) ∷ []
@@ -50,16 +47,6 @@ pub escaped_text : (t u : Octets) (x : ℕ) → x < 256 → false ≡ is_shown x
 escaped_text t u x f h w =
     w ∙ ap (λ y. t ++ 92 ∷ y) (digits_three x f) ∙ ap (λ b. t ++ cond b (x ∷ []) (92 ∷ (48 + x / 100) ∷ (48 + x / 10 % 10) ∷ (48 + x % 10) ∷ [])) h
 
-label_first : (s t u : Octets) (x y : ℕ) → u ≡ t ++ octet_text y → y ≡ text.to_ascii_lowercase x → u ++ label_text (map lower s) ≡ t ++ label_text (map lower (x ∷ s))
-label_first s t u x y e f = rw (e, f, ascii_lower x) (append_assoc t (octet_text (lower x)) (label_text (map lower s)))
-
--- one more octet of a label is printed
-pub label_more : (i : ℕ) (l t u : Octets) (y : ℕ) → i < length l → u ≡ t ++ octet_text y → y ≡ text.to_ascii_lowercase (get_or l i 0) → u ++ label_text (map lower (drop (i + 1) l)) ≡ t ++ label_text (map lower (drop i l))
-label_more i l t u y h e f = label_first (drop (i + 1) l) t u (get_or l i 0) y e f ∙ ap (λ d. t ++ label_text (map lower d)) (sym (drop_more l i 0 h))
-
--- the whole label is printed
-pub label_all : (i : ℕ) (l t : Octets) → length l ≤ i → t ≡ t ++ label_text (map lower (drop i l))
-label_all i l t h = rw (drop_all i l h) (sym (append-nil t))
 
 -- a name with labels
 pub some_labels : (n : Labels) → (length n ≡ 0 → ⊥) → labels_text n ≡ name_text n

@@ -1,15 +1,13 @@
 -- The steps of the readers of names, as the code takes them.
-use Rattle.std.proofs.Common.{◌≡◌, ℕ, ◌+◌, ◌-◌, ◌*◌, ◌<◌, ◌≤◌, Bool, true, false, cond, eqb, [], ◌∷◌, ◌++◌, length, get_or, take, drop, Some, None, Option, sym, refl, ap, ◌∙◌, ◌⊎◌, inl, inr, arith}
+use Rattle.std.proofs.Common.{◌≡◌, ℕ, ◌+◌, ◌-◌, ◌*◌, ◌<◌, ◌≤◌, Bool, true, false, cond, eqb, [], ◌∷◌, ◌++◌, length, get_or, take, drop, Some, None, Option, sym, refl, ap, ◌∙◌, arith}
 use Rattle.std.proofs.lemmas.List.{append_assoc, take_rest}
 use Rattle.std.proofs.lemmas.Bool.Decides.{nat_tests}
 use Rattle.std.proofs.lemmas.Bool.{false≢true}
-use Rattle.std.proofs.lemmas.Option.{cond_some, none-some}
+use Rattle.std.proofs.lemmas.Option.{cond_some}
 use Rattle.std.proofs.lemmas.Cmp.{nat_list_eq_equiv}
 use Rattle.std.specs.Cmp.Lexicographic.{pointwise}
 use Rattle.names.specs.Wire.{Octets, Label}
-use Rattle.script.specs.declared.fault.Fault.{Fault}
-use Rattle.script.specs.declared.fault.Fault.TheVariants.{NoMemory, NotAName}
-use Rattle.script.specs.NameText.{before, read_hex, is_hex, hex_value, read_labels, read_name, is_plain, is_octet3, decimal3, is_whole}
+use Rattle.script.specs.NameText.{before, read_hex, is_hex, hex_value, read_labels, is_octet3, decimal3, is_whole}
 
 -- octets before octets before a rest
 pub before_more : (v x : Octets) (o : Option Octets) → before (v ++ x) o ≡ before v (before x o)
@@ -42,10 +40,6 @@ pub before_nothing : (o : Option Octets) → before [] o ≡ o
 before_nothing None = refl
 before_nothing (Some t) = refl
 
-failed : {A : Type 0} (b : Bool) (y : A) → cond b (Some y) None ≡ None → b ≡ false
-failed true y e = absurd (none-some y (sym e))
-failed false y e = refl
-
 dot_first : (s v : Octets) (l : Label) → 0 < length s → get_or s 0 0 ≡ 46 → is_whole l ≡ true → before v (before (length l ∷ l) (read_labels [] (drop 1 s))) ≡ before v (read_labels l s)
 dot_first [] v l h d w = absurd (omega arith)
 dot_first (x ∷ xs) v l h d w = let e : eqb x 46 ≡ true = grind (arith, nat_tests) in rw (e, w)
@@ -55,16 +49,6 @@ pub dot_step : (s v w : Octets) (l m : Label) → 0 < length s → get_or s 0 0 
 dot_step s v w l m h d p z =
     let i = cond_some (is_whole l) (v ++ length l ∷ l) w p in
     rw (z, ← i.1, take_rest s 1, before_more v (length l ∷ l) (read_labels [] (drop 1 s))) (dot_first s v l h d i.0)
-
--- or there is no name
-pub dot_fails : (s y : Octets) (l : Label) → 0 < length s → get_or s 0 0 ≡ 46 → cond (is_whole l) (Some y) None ≡ None → read_labels l s ≡ None
-dot_fails [] y l h d p = absurd (omega arith)
-dot_fails (x ∷ xs) y l h d p = let e : eqb x 46 ≡ true = grind (arith, nat_tests) in rw (e, failed (is_whole l) y p)
-
--- a fault for want of a whole label is one for want of a name
-pub label_fault : (e : Fault) (o p : Option Octets) → (e ≡ NoMemory) ⊎ ((e ≡ NotAName) × (o ≡ None)) → (o ≡ None → p ≡ None) → (e ≡ NoMemory) ⊎ ((e ≡ NotAName) × (p ≡ None))
-label_fault e o p (inl m) h = inl m
-label_fault e o p (inr f) h = inr (f.0, h f.1)
 
 escape_four : (s : Octets) (l : Label) → 4 ≤ length s → get_or s 0 0 ≡ 92 → read_labels l s ≡ cond (is_octet3 (get_or s 1 0) (get_or s 2 0) (get_or s 3 0)) (read_labels (l ++ decimal3 (get_or s 1 0) (get_or s 2 0) (get_or s 3 0) ∷ []) (drop 4 s)) None
 escape_four [] l h d = absurd (omega arith)
@@ -81,31 +65,3 @@ pub escape_step : (s v : Octets) (l m : Label) (x : ℕ) → 4 ≤ length s → 
 escape_step s v l m x h d p q =
     let i = passed (is_octet3 (get_or s 1 0) (get_or s 2 0) (get_or s 3 0)) x (decimal3 (get_or s 1 0) (get_or s 2 0) (get_or s 3 0)) p in
     rw (q, i.1, take_rest s 4) (ap (before v) (sym (escape_four s l h d ∙ rw i.0)))
-
-plain_first : (s : Octets) (l : Label) → 0 < length s → is_plain (get_or s 0 0) ≡ true → read_labels l s ≡ read_labels (l ++ get_or s 0 0 ∷ []) (drop 1 s)
-plain_first [] l h p = absurd (omega arith)
-plain_first (x ∷ xs) l h p =
-    let e : eqb x 46 ≡ false = grind (arith, nat_tests) in
-    let f : eqb x 92 ≡ false = grind (arith, nat_tests) in
-    rw (e, f, p)
-
--- another character stands for itself
-pub plain_step : (s v : Octets) (l m : Label) → 0 < length s → is_plain (get_or s 0 0) ≡ true → m ≡ l ++ get_or s 0 0 ∷ [] → before v (read_labels m (take (length s - 1) (drop 1 s))) ≡ before v (read_labels l s)
-plain_step s v l m h p q =
-    let f : read_labels m (take (length s - 1) (drop 1 s)) ≡ read_labels (l ++ get_or s 0 0 ∷ []) (drop 1 s) = rw (q, take_rest s 1) in
-    ap (before v) (f ∙ sym (plain_first s l h p))
-
--- nothing before a rest is nothing
-pub before_none : (v : Octets) (o : Option Octets) → o ≡ None → before v o ≡ None
-before_none v o e = rw e
-
-pub labels_start : (s v : Octets) (l : Label) → v ≡ [] → l ≡ [] → before v (read_labels l s) ≡ read_labels [] s
-labels_start s v l e f = rw (e, f) (before_nothing (read_labels [] s))
-
-hex_first : (s : Octets) → 0 < length s → get_or s 0 0 ≡ 61 → read_hex (drop 1 s) ≡ read_name s
-hex_first [] h d = absurd (omega arith)
-hex_first (x ∷ xs) h d = let e : eqb x 61 ≡ true = grind (arith, nat_tests) in rw e
-
--- a text that begins with `=`
-pub hex_name : (s t : Octets) → s ≡ t → 0 < length s → get_or s 0 0 ≡ 61 → read_hex (take (length s - 1) (drop 1 s)) ≡ read_name t
-hex_name s t e h d = rw (← e, take_rest s 1) (hex_first s h d)

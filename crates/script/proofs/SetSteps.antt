@@ -1,6 +1,6 @@
 -- Sets of types: the turns of the loops, and that a printed set reads back.
-use Rattle.std.proofs.Common.{◌≡◌, ℕ, zero, suc, ◌+◌, ◌<◌, ◌≤◌, Bool, true, false, cond, ◌&&◌, ◌||◌, eqb, ltb, List, [], ◌∷◌, ◌++◌, length, get_or, drop, Some, None, Option, sym, refl, ap, ◌∙◌, add-one, zero-add, arith}
-use Rattle.std.proofs.lemmas.List.{at_drop_more, at_drop_all, map-id, get_or-replicate}
+use Rattle.std.proofs.Common.{◌≡◌, ℕ, zero, suc, ◌<◌, ◌≤◌, Bool, true, false, cond, ◌&&◌, ◌||◌, eqb, ltb, List, [], ◌∷◌, ◌++◌, length, get_or, Some, sym, refl, ap, ◌∙◌, add-one, zero-add, arith}
+use Rattle.std.proofs.lemmas.List.{map-id, get_or-replicate}
 use Rattle.std.proofs.lemmas.List.FromFn.{filter_of_map_range_with_len_more}
 use Rattle.std.specs.List.{filter, range_with_len}
 use Rattle.std.proofs.lemmas.Bool.{cases_Bool, lt-ltb}
@@ -11,22 +11,6 @@ use Rattle.names.specs.Wire.{Octets}
 use Rattle.script.specs.NameText.{are_octets}
 use Rattle.script.specs.SetText.{have_room, with_all, set_of, types_below, types_in, set_if_any, read_set}
 use Rattle.script.specs.TypeText.{read_types}
-
--- what is made of a set and the types that are left
-abbrev pub set_with : Words → List ℕ → Option Words
-set_with ws ts = cond (have_room ts) (Some (with_all ws ts)) None
-
-set_step : (ws : Words) (ts : List ℕ) (i : ℕ) → i < length ts → set_with ws (drop i ts) ≡ set_with ws (get_or ts i 0 ∷ drop (i + 1) ts)
-set_step ws ts i h = at_drop_more (set_with ws) ts i 0 h
-
-pub set_past : (ws : Words) (ts : List ℕ) (i : ℕ) → i < length ts → room ≤ get_or ts i 0 → set_with ws (drop i ts) ≡ None
-set_past ws ts i h k = set_step ws ts i h ∙ grind (arith, nat_tests)
-
-pub set_more : (ws : Words) (ts : List ℕ) (i : ℕ) → i < length ts → get_or ts i 0 < room → set_with ws (drop i ts) ≡ set_with (with ws (get_or ts i 0)) (drop (i + 1) ts)
-set_more ws ts i h k = set_step ws ts i h ∙ grind (arith, nat_tests)
-
-pub set_end : (ws : Words) (ts : List ℕ) (i : ℕ) → length ts ≤ i → set_with ws (drop i ts) ≡ Some ws
-set_end ws ts i h = at_drop_all (set_with ws) ts i h
 
 -- the types below n that a set has, chosen from all numbers below n
 types_chosen : (n : ℕ) (ws : Words) → filter (has ws) (range_with_len 0 n) ≡ types_below n ws

@@ -1,7 +1,7 @@
 -- Types that are printed read back.
-use Rattle.std.proofs.Common.{◌≡◌, ℕ, suc, ◌+◌, ◌-◌, ◌^◌, ◌<◌, ◌≤◌, true, leb, List, [], ◌∷◌, ◌++◌, length, get_or, take, drop, Some, decimal, sym, refl, ap, ◌∙◌, arith}
+use Rattle.std.proofs.Common.{◌≡◌, ℕ, suc, ◌-◌, ◌^◌, ◌<◌, ◌≤◌, true, leb, List, [], ◌∷◌, ◌++◌, length, get_or, take, drop, Some, decimal, sym, refl, ap, ◌∙◌, arith}
 use Rattle.std.proofs.lemmas.Fmt.{decimal_nonempty, digits_decimal, digits_value-decimal, length-decimal-le}
-use Rattle.std.proofs.lemmas.List.{append-nil, append_assoc, take_rest, drop_more, drop_all}
+use Rattle.std.proofs.lemmas.List.{append-nil, take_rest, drop_all}
 use Rattle.std.proofs.lemmas.Str.Parse.{not_in_digits}
 use Rattle.std.proofs.lemmas.Bool.Decides.{nat_tests}
 use Rattle.names.specs.Wire.{Octets}
@@ -69,20 +69,9 @@ types_typed (t ∷ ts) h =
 pub types_back : (ts : List ℕ) (s : Octets) → ((i : ℕ) → get_or ts i 0 < 65536) → s ≡ types_text ts → read_types s ≡ Some ts
 types_back ts s h e = ap read_types e ∙ types_round ts (types_typed ts h)
 
--- the steps of printing
-pub none_text : (ts : List ℕ) → length ts < 1 → 45 ∷ [] ≡ types_text ts
-none_text [] h = refl
-none_text (t ∷ ts) h = absurd (omega arith)
-
 pub some_text : (ts : List ℕ) (s : Octets) → 0 < length ts → s ≡ decimal (get_or ts 0 0) → s ++ further_text (take (length ts - 1) (drop 1 ts)) ≡ types_text ts
 some_text [] s h e = absurd (omega arith)
 some_text (t ∷ ts) s h e = ap (λ y. y ++ further_text (take (length (t ∷ ts) - 1) ts)) e ∙ ap (λ y. decimal t ++ further_text y) (take_rest (t ∷ ts) 1)
-
-further_first : (ts : List ℕ) (s u : Octets) (t : ℕ) → u ≡ s ++ 44 ∷ decimal t → u ++ further_text ts ≡ s ++ further_text (t ∷ ts)
-further_first ts s u t e = ap (λ y. y ++ further_text ts) e ∙ append_assoc s (44 ∷ decimal t) (further_text ts)
-
-pub further_more : (i : ℕ) (ts : List ℕ) (s u : Octets) → i < length ts → u ≡ s ++ 44 ∷ decimal (get_or ts i 0) → u ++ further_text (drop (i + 1) ts) ≡ s ++ further_text (drop i ts)
-further_more i ts s u h e = further_first (drop (i + 1) ts) s u (get_or ts i 0) e ∙ ap (λ y. s ++ further_text y) (sym (drop_more ts i 0 h))
 
 pub further_end : (i : ℕ) (ts : List ℕ) (s : Octets) → length ts ≤ i → s ≡ s ++ further_text (drop i ts)
 further_end i ts s h = sym (ap (λ y. s ++ further_text y) (drop_all i ts h) ∙ append-nil s)

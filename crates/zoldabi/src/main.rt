@@ -18,9 +18,7 @@ use std::{env, fs, io};
 
 // The whole script.
 fn script_text(rt: &HostRuntime) -> io::Result<String> {
-    let mut args = env::args(rt)?;
-    let _program = args.next();
-    match args.next() {
+    match env::args(rt)?.nth(1) {
         Some(path) => fs::read_to_string(rt, path.as_str()),
         None => io::read_to_string(rt.alloc(), rt.stdin()),
     }
@@ -37,26 +35,30 @@ fn read_lines<'a>(heap: Global, script: &'a str) -> anyhow::Result<Vec<(&'a str,
     Ok(lines)
 }
 
-fn refused(heap: Global, refusal: Refusal) -> Result<String, AllocError> {
-    let number = refusal.number();
-    format!(in heap; "refused {number}: {refusal}")
+// The name that a line gives. Refused are types that neither the rule for an apex nor that for other names allows it.
+fn allowed_name<'a>(octets: &'a [u8], types: &TypeSet) -> Result<Name<'a>, Refusal> {
+    let name = Name::read(octets)?;
+    if types.allowed_at_apex() || types.allowed_below_apex(&name) {
+        Ok(name)
+    } else {
+        Err(Refusal::TypesNotAllowed)
+    }
 }
 
-// The label count and the lower-case form of a name; it is kept. Refused are types that neither the rule for an apex nor
-// that for other names allows it.
+// The label count and the lower-case form of a name, which is kept, or why it is refused.
 fn answer_name<'a>(
     heap: Global,
     kept: &mut Kept<'a>,
     octets: &'a [u8],
     types: TypeSet,
 ) -> Result<String, AllocError> {
-    let name = match Name::read(octets) {
+    let name = match allowed_name(octets, &types) {
         Ok(name) => name,
-        Err(refusal) => return refused(heap, refusal),
+        Err(refusal) => {
+            let number = refusal.number();
+            return format!(in heap; "refused {number}: {refusal}");
+        }
     };
-    if !types.allowed_at_apex() && !types.allowed_below_apex(&name) {
-        return refused(heap, Refusal::TypesNotAllowed);
-    }
     let count = name.label_count();
     let text = name_text(heap, &name)?;
     kept.put(name, types)?;

@@ -1,23 +1,10 @@
-use Rattle.std.proofs.Common.{◌≡◌, true, [], ◌∷◌, sym, ap, ◌∙◌}
-use Rattle.std.proofs.lemmas.List.{nil_from_length}
+use Rattle.std.proofs.Common.{◌≡◌, true, sym, ap, ◌∙◌}
 use Rattle.std.proofs.lemmas.Result.{IfOk-weaker}
 use Rattle.names.specs.View.{octets}
 use Rattle.names.specs.Wire.{labels_of}
-use Rattle.script.specs.NameText.{are_octets, name_text}
+use Rattle.script.specs.NameText.{are_octets}
 use Rattle.script.proofs.NamePrint.{some_labels, name_back}
 use Rattle.script.proofs.name.name_text.Goals as goal
-
-pub returns-then-label_count-eq0 : goal.returns-then-label_count-eq0
-returns-then-label_count-eq0 c =
-    let o = octets c.args.name.now in
-    let b : are_octets o ≡ true = ap are_octets (sym c.octets.ensures) ∙ c.octets_fit.ensures in
-    let n : labels_of o ≡ [] = nil_from_length (labels_of o) (sym c.label_count.ensures.value ∙ c.if-label_count-eq0.true) in
-    let q : 46 ∷ [] ≡ name_text (labels_of o) = sym (ap name_text n) in
-    let m = c.from_str.ensures.ok in
-    record {
-      text = IfOk-weaker c.from_str.result _ _ (λ t p. p ∙ q) m;
-      reads_back = IfOk-weaker c.from_str.result _ _ (λ t p. name_back o _ b (p ∙ q)) m;
-    }
 
 pub returns : goal.returns
 returns c =

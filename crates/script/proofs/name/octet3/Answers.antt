@@ -1,0 +1,6 @@
+use Rattle.std.proofs.Common.{arith}
+use Rattle.std.proofs.lemmas.Bool.Decides.{nat_tests}
+use Rattle.script.proofs.name.octet3.Goals as goal
+
+pub returns : goal.returns
+returns c = grind (arith, nat_tests)
