@@ -1,4 +1,4 @@
-ghost use Rattle.std.specs.Prelude.{◌≡◌, length, ◌<◌, true, [], ◌∷◌, ◌++◌, map, IfOk, if◌then◌else◌, Some, None, vec_items, string_bytes, OnOk};
+ghost use Rattle.std.specs.Prelude.{◌≡◌, ◌+◌, ◌*◌, ◌&&◌, length, true, [], ◌∷◌, ◌++◌, map, IfOk, if◌then◌else◌, Some, None, vec_items, string_bytes, OnOk};
 ghost use Rattle.names.specs.Wire.{lower, wire};
 ghost use Rattle.names.specs.View.{labels};
 ghost use Rattle.script.specs.NameText.{are_octets, is_shown, octet_text, label_text, labels_text, name_text, read_name, read_hex, read_labels, is_hex, hex_value, is_plain, is_octet3, decimal3, is_whole};
@@ -15,6 +15,13 @@ fn hex_value(c: u8) -> Option<u8>
     ensures { result ≡ (if is_hex c then Some (hex_value c) else None) }
 {
     char::from(c).to_digit(16).map(|digit| digit as u8)
+}
+
+// The octet that two hexadecimal digits write.
+fn hex_octet(high: u8, low: u8) -> Option<u8>
+    ensures { result ≡ (if is_hex high && is_hex low then Some (16 * hex_value high + hex_value low) else None) }
+{
+    Some(16 * hex_value(high)? + hex_value(low)?)
 }
 
 // The octet that three digits write.
@@ -45,20 +52,15 @@ fn is_plain(c: u8) -> bool
 fn read_hex(heap: Global, text: &[u8]) -> Result<Vec<u8>, Fault>
     ensures { Reads vec_items Fault.NotAName result (read_hex text.now) }
 {
+    let (pairs, []) = text.as_chunks::<2>() else {
+        return Err(Fault::NotAName);
+    };
     let mut octets = Vec::new(heap);
-    let mut rest = text;
-    while let [a, b, tail @ ..] = rest {
-        let (Some(x), Some(y)) = (hex_value(*a), hex_value(*b)) else {
-            return Err(Fault::NotAName);
-        };
-        octets.push(16 * x + y)?;
-        rest = tail;
+    for [high, low] in pairs {
+        let octet = hex_octet(*high, *low).ok_or(Fault::NotAName)?;
+        octets.push(octet)?;
     }
-    if rest.is_empty() {
-        Ok(octets)
-    } else {
-        Err(Fault::NotAName)
-    }
+    Ok(octets)
 }
 
 // Puts a label in wire form behind a name.
