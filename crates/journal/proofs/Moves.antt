@@ -1,58 +1,30 @@
 -- The notes once one is added or removed, and the steps of a compaction.
-use Rattle.std.proofs.Common.{◌≡◌, ℕ, suc, ◌+◌, ◌-◌, ◌<◌, ◌≤◌, Bool, true, false, cond, List, [], ◌∷◌, ◌++◌, length, take, drop, is_some, sym, refl, ap, ◌∙◌, ap₂, ⊎_elim, add-one, arith, rules}
+use Rattle.std.proofs.Common.{◌≡◌, ℕ, suc, ◌+◌, ◌-◌, ◌<◌, ◌≤◌, Bool, true, false, cond, ltb, List, [], ◌∷◌, ◌++◌, length, take, drop, is_some, sym, refl, ap, ◌∙◌, ap₂, ⊎_elim, add-one, arith, rules}
 use Rattle.std.proofs.lemmas.List.Edits.{length-remove}
 use Rattle.std.proofs.lemmas.List.{same_lists, places, length-take-le, length-map, take-map, drop-map, map-append, take_at, drop_at, append_assoc, append-nil, take_all, drop_all}
 use Rattle.std.proofs.lemmas.Bool.{false≢true, cases_Bool, cases_lt}
 use Rattle.std.proofs.lemmas.Bool.Decides.{nat_tests}
-use Rattle.std.specs.List.{insert, remove}
-use Rattle.shelf.proofs.Live.{live_put, live_take}
-use Rattle.shelf.specs.Entries.{live, can_put, put_slots, put_count, can_take, take_slots, take_count}
+use Rattle.std.specs.List.{remove}
+use Rattle.shelf.proofs.Live.{put_all}
+use Rattle.shelf.specs.Entries.{live, put_slots, put_count}
 use Rattle.journal.proofs.Places.{at, entry_end}
 use Rattle.journal.specs.Notes.{Notes, compacted, is_live, live_entry, entry_at}
 use Rattle.journal.specs.View.{note_contents, shown}
 use Rattle.journal.specs.declared.note.Note.{Note}
 
--- two choices by one test that holds
-both_true : {X Y Z : Type 0} (b : Bool) (F : X → Y → Z) (x y : X) (u v : Y) → b ≡ true → F (cond b x y) (cond b u v) ≡ F x u
-both_true true F x y u v h = refl
-both_true false F x y u v h = absurd (false≢true h)
-
--- a shelf once an entry is put behind the others, or one is taken out
-pub record Put {X : Type 0} (s : List X) (n k : ℕ) (x : X) : Type 0 where
+-- a shelf once an entry is put behind the others
+pub record PutLast {X : Type 0} (s : List X) (n k : ℕ) (x : X) : Type 0 where
   pub notes : live (put_slots s n k x) (put_count s n k) ≡ live s n ++ (x ∷ [])
   pub slots : length (put_slots s n k x) ≡ length s
-  pub fits : put_count s n k ≤ length (put_slots s n k x)
 
-pub put_last : {X : Type 0} (s : List X) (n k : ℕ) (x : X) → n ≤ length s → k ≡ length (live s n) → length (live s n) < length s → Put s n k x
+pub put_last : {X : Type 0} (s : List X) (n k : ℕ) (x : X) → n ≤ length s → k ≡ length (live s n) → length (live s n) < length s → PutLast s n k x
 put_last s n k x h e l =
     let m = length-take-le n s h in
-    let q : k ≡ n = e ∙ m in
-    let t : can_put s n k ≡ true = grind (arith, nat_tests) in
-    let len : length (insert (live s n) k x ++ drop (n + 1) s) ≡ length s = search (rules, places) in
-    let slots = both_true (can_put s n k) (λ a (b : ℕ). length a) (insert (live s n) k x ++ drop (n + 1) s) s (n + 1) n t in
-    let count = both_true (can_put s n k) (λ (a : ℕ) (b : ℕ). a) (n + 1) n (n + 1) n t in
+    let p = put_all s n k x (omega arith) h in
+    let t : ltb n (length s) ≡ true = grind (arith, nat_tests) in
     record {
-      notes = both_true (can_put s n k) live (insert (live s n) k x ++ drop (n + 1) s) s (n + 1) n t ∙ live_put s n k x (omega arith) (omega arith) ∙ same_lists _ _ (search (rules, places)) (λ j d b. grind (arith, places));
-      slots = slots ∙ len;
-      fits = omega arith;
-    }
-
-pub record Taken {X : Type 0} (s : List X) (n k : ℕ) : Type 0 where
-  pub notes : live (take_slots s n k) (take_count s n k) ≡ remove (live s n) k
-  pub slots : length (take_slots s n k) ≡ length s
-  pub fits : take_count s n k ≤ length (take_slots s n k)
-
-pub take_out : {X : Type 0} (s : List X) (n k : ℕ) → n ≤ length s → k < length (live s n) → Taken s n k
-take_out s n k h l =
-    let m = length-take-le n s h in
-    let t : can_take s n k ≡ true = grind (arith, nat_tests) in
-    let len : length (remove (live s n) k ++ (take 1 (drop k s) ++ drop n s)) ≡ length s = search (rules, places) in
-    let slots = both_true (can_take s n k) (λ a (b : ℕ). length a) (remove (live s n) k ++ (take 1 (drop k s) ++ drop n s)) s (n - 1) n t in
-    let count = both_true (can_take s n k) (λ (a : ℕ) (b : ℕ). a) (n - 1) n (n - 1) n t in
-    record {
-      notes = both_true (can_take s n k) live (remove (live s n) k ++ (take 1 (drop k s) ++ drop n s)) s (n - 1) n t ∙ live_take s n k (omega arith) h;
-      slots = slots ∙ len;
-      fits = omega arith;
+      notes = p.entries ∙ rw t (same_lists _ _ (search (rules, places)) (λ j d b. grind (arith, places)));
+      slots = p.slots;
     }
 
 -- a live note stands at an index of the notes

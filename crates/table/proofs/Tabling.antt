@@ -108,7 +108,6 @@ map_removed f (y ∷ ys) (suc i) = ap (λ l. f y ∷ l) (map_removed f ys i)
 
 -- the slots and their number once an entry was put in at its rank, or refused for want of a slot
 pub record Grown (s : List Named) (n : ℕ) (x : Named) (t : List Named) (m : ℕ) (r : Bool) : Type 0 where
-  pub fits : m ≤ length t
   pub sorted : rises (entries_in (live t m)) ≡ true
   pub slots : length t ≡ length s
   pub room : r ≡ leb (spent one_each (entries_in (live s n)) + 1) (length s)
@@ -121,21 +120,19 @@ count_is s n l = let u = length-take n s in let v = length-map (live s n) entry_
 room_is : (s : List Named) (n : ℕ) → n ≤ length s → leb (spent one_each (entries_in (live s n)) + 1) (length s) ≡ ltb n (length s)
 room_is s n l = let u = count_is s n l in let w = spent_ones (entries_in (live s n)) in let a = cases_Bool (ltb n (length s)) in let b = cases_Bool (leb (spent one_each (entries_in (live s n)) + 1) (length s)) in grind arith
 
-grown_by : (s : List Named) (n i : ℕ) (x : Named) (t : List Named) (m : ℕ) (r : Bool) → n ≤ length s → rises (entries_in (live s n)) ≡ true → Missing (entry_in x).0 (entries_in (live s n)) i → is_labels (entry_in x).0 ≡ true → r ≡ ltb n (length s) → live t m ≡ cond r (insert (live s n) i x) (live s n) → length t ≡ length s → m ≤ length t → Grown s n x t m r
-grown_by s n i x t m true l h p k e a b c =
+grown_by : (s : List Named) (n i : ℕ) (x : Named) (t : List Named) (m : ℕ) (r : Bool) → n ≤ length s → rises (entries_in (live s n)) ≡ true → Missing (entry_in x).0 (entries_in (live s n)) i → is_labels (entry_in x).0 ≡ true → r ≡ ltb n (length s) → live t m ≡ cond r (insert (live s n) i x) (live s n) → length t ≡ length s → Grown s n x t m r
+grown_by s n i x t m true l h p k e a b =
     let w = rank_with (entry_in x) (entries_in (live s n)) h p.none in
     let v : entries_in (live t m) ≡ with_entry (entry_in x) (entries_in (live s n)) = ap entries_in a ∙ map_inserted entry_in (live s n) i x ∙ ap (λ j. insert (entries_in (live s n)) j (entry_in x)) p.at ∙ sym w in
     record {
-      fits = c;
       sorted = ap rises v ∙ rises_with (entry_in x) (entries_in (live s n)) h k p.none;
       slots = b;
       room = e ∙ sym (room_is s n l);
       held = v;
       kept = ap (map contents) a ∙ map_inserted contents (live s n) i x ∙ ap (λ j. insert (map contents (live s n)) j (contents x)) p.at;
     }
-grown_by s n i x t m false l h p k e a b c =
+grown_by s n i x t m false l h p k e a b =
     record {
-      fits = c;
       sorted = ap (λ y. rises (entries_in y)) a ∙ h;
       slots = b;
       room = e ∙ sym (room_is s n l);
@@ -153,11 +150,9 @@ grown s n i x t m r l h p e a b =
     grown_by s n i x t m r l h p (are_labels_lem _ x.name) f
     (ap₂ live a b ∙ w.entries ∙ sym (ap (λ z. cond z (insert (live s n) i x) (live s n)) f))
     (ap length a ∙ w.slots)
-    (let g = w.fits in let y = ap length a in omega arith)
 
 -- the slots and their number once an entry was taken out
 pub record Shrunk (s : List Named) (n : ℕ) (name : Labels) (t : List Named) (m : ℕ) : Type 0 where
-  pub fits : m ≤ length t
   pub sorted : rises (entries_in (live t m)) ≡ true
   pub slots : length t ≡ length s
   pub held : entries_in (live t m) ≡ without_name name (entries_in (live s n))
@@ -171,7 +166,6 @@ shrunk s n i name t m l h p a b =
     let e : live t m ≡ remove (live s n) i = ap₂ live a b ∙ w.entries in
     let v : entries_in (live t m) ≡ without_name name (entries_in (live s n)) = ap entries_in e ∙ map_removed entry_in (live s n) i ∙ ap (remove (entries_in (live s n))) p.at ∙ sym (rank_without name (entries_in (live s n)) p.entry h p.some) in
     record {
-      fits = (let g = w.fits in let y = ap length a in omega arith);
       sorted = ap rises v ∙ rises_without name (entries_in (live s n)) h;
       slots = ap length a ∙ w.slots;
       held = v;
