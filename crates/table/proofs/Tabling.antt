@@ -1,13 +1,12 @@
 -- A table once an entry was put in or taken out.
-use Rattle.std.proofs.Common.{◌≡◌, ℕ, zero, suc, ◌+◌, ◌<◌, ◌≤◌, Bool, true, false, cond, ltb, leb, List, [], ◌∷◌, map, length, get_or, is_some, is_ok, Some, None, Ok, Err, Option, sym, refl, ap, ◌∙◌, ap₂, ⊎_elim, arith}
-use Rattle.std.proofs.lemmas.List.{length-map, length-take, get_or-map}
-use Rattle.std.proofs.lemmas.Option.{slice_get-get_or, slice_get_past}
+use Rattle.std.proofs.Common.{◌≡◌, ℕ, zero, suc, ◌+◌, ◌<◌, ◌≤◌, Bool, true, false, cond, ltb, leb, List, [], ◌∷◌, map, length, is_some, is_ok, Some, None, Ok, Err, Option, sym, refl, ap, ◌∙◌, ap₂, ⊎_elim, arith}
+use Rattle.std.proofs.lemmas.List.{length-map, length-take}
+use Rattle.std.proofs.lemmas.Option.{slice_get_past}
 use Rattle.std.proofs.lemmas.Bool.{cases_Bool}
-use Rattle.std.specs.List.{slice_get, insert, remove}
+use Rattle.std.specs.List.{insert, remove}
 use Rattle.names.proofs.Undo.{are_labels_lem}
 use Rattle.names.proofs.Reader.{some_same, was_read}
 use Rattle.names.specs.Types.{Words}
-use Rattle.names.specs.Canonical.{same_name}
 use Rattle.names.specs.Wire.{Octets, Labels, is_name, is_labels, labels_of}
 use Rattle.shelf.proofs.Live.{put_all, take_all}
 use Rattle.shelf.specs.Entries.{live, can_put, put_slots, put_count, take_slots, take_count}
@@ -20,30 +19,6 @@ use Rattle.books.specs.declared.named.Named.{Named}
 use Rattle.table.proofs.Ranking.{rank_most, rank_entry, rank_with, rank_without, same_at}
 use Rattle.table.specs.Ranks.{entries_in, rank, standing}
 use Rattle.books.specs.Held.{one_each}
-
--- what stands at the rank says whether a name is held
-pub there : (n m : Labels) (es : List Named) (x : Named) (i : ℕ) (b : Bool) → rises (entries_in es) ≡ true → i ≡ rank n (entries_in es) → i < length es → x ≡ get_or es i x → m ≡ (entry_in x).0 → b ≡ same_name n m → is_some (entry_of n (entries_in es)) ≡ b
-there n m es x i b h r l p e q =
-    let k = length-map es entry_in in
-    let g : slice_get (entries_in es) i ≡ Some (entry_in x) = slice_get-get_or (entries_in es) i (entry_in x) (omega arith) ∙ ap Some (get_or-map entry_in es i x (entry_in x) l ∙ ap entry_in (sym p)) in
-    let u : entry_of n (entries_in es) ≡ same_at n (Some (entry_in x)) = rank_entry n (entries_in es) h ∙ ap (λ j. same_at n (slice_get (entries_in es) j)) (sym r) ∙ ap (same_at n) g in
-    let v : same_name n (entry_in x).0 ≡ b = ap (same_name n) (sym e) ∙ sym q in
-    ap is_some u ∙ rw v (some_by b (entry_in x))
-  where
-    some_by : (b : Bool) (e : Entry) → is_some (cond b (Some e) None) ≡ b
-    some_by true e = refl
-    some_by false e = refl
-
-pub behind : (n : Labels) (es : List Named) (i : ℕ) → rises (entries_in es) ≡ true → i ≡ rank n (entries_in es) → length es ≤ i → is_some (entry_of n (entries_in es)) ≡ false
-behind n es i h r l =
-    let k = length-map es entry_in in
-    ap is_some (rank_entry n (entries_in es) h ∙ ap (λ j. same_at n (slice_get (entries_in es) j)) (sym r) ∙ ap (same_at n) (slice_get_past (entries_in es) i (omega arith)))
-
-pub standing_as : (n : Labels) (es fs : List Named) (i : ℕ) (b : Bool) → es ≡ fs → i ≡ rank n (entries_in es) → is_some (entry_of n (entries_in es)) ≡ b → cond b (Ok i) (Err i) ≡ standing n (entries_in fs)
-standing_as n es fs i b e r t =
-    let u : is_some (entry_of n (entries_in fs)) ≡ b = ap (λ z. is_some (entry_of n (entries_in z))) (sym e) ∙ t in
-    let v : i ≡ rank n (entries_in fs) = r ∙ ap (λ z. rank n (entries_in z)) e in
-    rw u (ap (λ j. cond b (Ok j) (Err j)) v)
 
 -- what a position says
 pub record Missing (n : Labels) (hs : Held) (i : ℕ) : Type 0 where

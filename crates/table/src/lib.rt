@@ -10,7 +10,6 @@ use books::named::Named;
 use shelf::Shelf;
 
 mod keeping;
-mod searching;
 mod table_book;
 
 // A name costs 1, and the capacity is the number of slots.
