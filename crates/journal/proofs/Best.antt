@@ -1,5 +1,5 @@
 -- The first entry after a name, among the live notes.
-use Rattle.std.proofs.Common.{◌≡◌, true, cond, ◌&&◌, [], ◌∷◌, Some, None, Option, ap, arith}
+use Rattle.std.proofs.Common.{◌≡◌, Bool, true, cond, ◌&&◌, [], ◌∷◌, Some, None, Option, ap, arith}
 use Rattle.std.proofs.lemmas.Bool.{cases_Bool, and_parts}
 use Rattle.std.proofs.lemmas.Bool.Decides.{nat_tests}
 use Rattle.names.specs.Canonical.{same_name}
@@ -8,8 +8,13 @@ use Rattle.books.proofs.Keeps.{less_other}
 use Rattle.books.proofs.Rising.{less_transitive, rises_tail}
 use Rattle.books.specs.Held.{Entry, Held, less, rises, entry_of, entry_after, with_entry}
 use Rattle.journal.proofs.Compact.{entered, live_new, entered_rises, held_entered}
-use Rattle.journal.specs.Notes.{Noted, Notes, entry_noted, name_noted, held_by, is_live, before}
+use Rattle.journal.specs.Notes.{Noted, Notes, entry_noted, name_noted, held_by, is_live}
 use Rattle.journal.specs.Rising.{are_names}
+
+-- a name comes before an entry, if there is one
+abbrev pub before : Labels → Option Entry → Bool
+before n None = true
+before n (Some e) = less n e.0
 
 -- the better of an entry and the best so far
 abbrev pub better : Labels → Entry → Option Entry → Option Entry

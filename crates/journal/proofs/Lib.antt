@@ -4,6 +4,7 @@ mod Compact
 mod Best
 mod After
 mod Places
+mod Nearest
 mod Moves
 mod Root
 mod Room

@@ -1,70 +1,20 @@
 -- The notes once one is added or removed, and the steps of a compaction.
-use Rattle.std.proofs.Common.{◌≡◌, ℕ, suc, ◌+◌, ◌-◌, ◌<◌, ◌≤◌, Bool, true, false, cond, List, [], ◌∷◌, ◌++◌, length, take, drop, is_some, sym, refl, ap, ◌∙◌, ap₂, ⊎_elim, add-one, arith, rules}
-use Rattle.std.proofs.lemmas.List.Edits.{length-remove}
-use Rattle.std.proofs.lemmas.List.{same_lists, places, length-take-le, length-map, take-map, drop-map, map-append, take_at, drop_at, append_assoc, append-nil, take_all, drop_all}
-use Rattle.std.proofs.lemmas.Bool.{false≢true, cases_Bool, cases_lt}
+use Rattle.std.proofs.Common.{◌≡◌, ℕ, suc, ◌+◌, ◌<◌, true, false, List, [], ◌∷◌, ◌++◌, length, take, drop, is_some, sym, ap, ◌∙◌, ap₂, add-one, arith}
+use Rattle.std.proofs.lemmas.List.{length-take-le, length-map, take-map, drop-map, map-append, take_at, drop_at, append_assoc}
+use Rattle.std.proofs.lemmas.Bool.{cases_Bool}
 use Rattle.std.proofs.lemmas.Bool.Decides.{nat_tests}
-use Rattle.std.specs.List.{insert, remove}
-use Rattle.shelf.proofs.Live.{live_put, live_take}
-use Rattle.shelf.specs.Entries.{live, can_put, put_slots, put_count, can_take, take_slots, take_count}
-use Rattle.journal.proofs.Places.{at, entry_end}
+use Rattle.std.specs.List.{remove}
+use Rattle.journal.proofs.Places.{at}
 use Rattle.journal.specs.Notes.{Notes, compacted, is_live, live_entry, entry_at}
 use Rattle.journal.specs.View.{note_contents, shown}
 use Rattle.journal.specs.declared.note.Note.{Note}
-
--- two choices by one test that holds
-both_true : {X Y Z : Type 0} (b : Bool) (F : X → Y → Z) (x y : X) (u v : Y) → b ≡ true → F (cond b x y) (cond b u v) ≡ F x u
-both_true true F x y u v h = refl
-both_true false F x y u v h = absurd (false≢true h)
-
--- a shelf once an entry is put behind the others, or one is taken out
-pub record Put {X : Type 0} (s : List X) (n k : ℕ) (x : X) : Type 0 where
-  pub notes : live (put_slots s n k x) (put_count s n k) ≡ live s n ++ (x ∷ [])
-  pub slots : length (put_slots s n k x) ≡ length s
-  pub fits : put_count s n k ≤ length (put_slots s n k x)
-
-pub put_last : {X : Type 0} (s : List X) (n k : ℕ) (x : X) → n ≤ length s → k ≡ length (live s n) → length (live s n) < length s → Put s n k x
-put_last s n k x h e l =
-    let m = length-take-le n s h in
-    let q : k ≡ n = e ∙ m in
-    let t : can_put s n k ≡ true = grind (arith, nat_tests) in
-    let len : length (insert (live s n) k x ++ drop (n + 1) s) ≡ length s = search (rules, places) in
-    let slots = both_true (can_put s n k) (λ a (b : ℕ). length a) (insert (live s n) k x ++ drop (n + 1) s) s (n + 1) n t in
-    let count = both_true (can_put s n k) (λ (a : ℕ) (b : ℕ). a) (n + 1) n (n + 1) n t in
-    record {
-      notes = both_true (can_put s n k) live (insert (live s n) k x ++ drop (n + 1) s) s (n + 1) n t ∙ live_put s n k x (omega arith) (omega arith) ∙ same_lists _ _ (search (rules, places)) (λ j d b. grind (arith, places));
-      slots = slots ∙ len;
-      fits = omega arith;
-    }
-
-pub record Taken {X : Type 0} (s : List X) (n k : ℕ) : Type 0 where
-  pub notes : live (take_slots s n k) (take_count s n k) ≡ remove (live s n) k
-  pub slots : length (take_slots s n k) ≡ length s
-  pub fits : take_count s n k ≤ length (take_slots s n k)
-
-pub take_out : {X : Type 0} (s : List X) (n k : ℕ) → n ≤ length s → k < length (live s n) → Taken s n k
-take_out s n k h l =
-    let m = length-take-le n s h in
-    let t : can_take s n k ≡ true = grind (arith, nat_tests) in
-    let len : length (remove (live s n) k ++ (take 1 (drop k s) ++ drop n s)) ≡ length s = search (rules, places) in
-    let slots = both_true (can_take s n k) (λ a (b : ℕ). length a) (remove (live s n) k ++ (take 1 (drop k s) ++ drop n s)) s (n - 1) n t in
-    let count = both_true (can_take s n k) (λ (a : ℕ) (b : ℕ). a) (n - 1) n (n - 1) n t in
-    record {
-      notes = both_true (can_take s n k) live (remove (live s n) k ++ (take 1 (drop k s) ++ drop n s)) s (n - 1) n t ∙ live_take s n k (omega arith) h;
-      slots = slots ∙ len;
-      fits = omega arith;
-    }
-
--- a live note stands at an index of the notes
-pub live_within : (ns : List Note) (i : ℕ) → is_some (entry_at (shown ns) i) ≡ true → i < length ns
-live_within ns i h = ⊎_elim (λ l. l) (λ l. absurd (false≢true (sym (ap is_some (entry_end ns i l)) ∙ h))) (cases_lt i (length ns))
 
 -- notes of which the first i are settled, as they will be when all are
 abbrev pub settled : List Note → ℕ → Notes
 settled ns i = take i (shown ns) ++ compacted (drop i (shown ns))
 
-stays : (xs : Notes) (i : ℕ) → i < length xs → is_some (entry_at xs i) ≡ true → take (i + 1) xs ++ compacted (drop (i + 1) xs) ≡ take i xs ++ compacted (drop i xs)
-stays xs i h l =
+stays_by : (xs : Notes) (i : ℕ) → i < length xs → is_some (entry_at xs i) ≡ true → take (i + 1) xs ++ compacted (drop (i + 1) xs) ≡ take i xs ++ compacted (drop i xs)
+stays_by xs i h l =
     let p = at xs i h in
     let a = ap live_entry p.1 in
     let c = cases_Bool (is_live p.0 (drop (i + 1) xs)) in
@@ -72,8 +22,11 @@ stays xs i h l =
     let b : compacted (drop i xs) ≡ p.0 ∷ compacted (drop (i + 1) xs) = ap compacted p.1 ∙ rw v in
     ap (λ ys. ys ++ compacted (drop (i + 1) xs)) p.2 ∙ append_assoc (take i xs) (p.0 ∷ []) (compacted (drop (i + 1) xs)) ∙ ap (λ ys. take i xs ++ ys) (sym b)
 
-goes : (xs : Notes) (i : ℕ) → i < length xs → is_some (entry_at xs i) ≡ false → compacted (drop i xs) ≡ compacted (drop (suc i) xs)
-goes xs i h l =
+pub stays : (ns : List Note) (i : ℕ) → i < length ns → is_some (entry_at (shown ns) i) ≡ true → settled ns (i + 1) ≡ settled ns i
+stays ns i h l = let k = length-map ns note_contents in stays_by (shown ns) i (omega arith) l
+
+goes_by : (xs : Notes) (i : ℕ) → i < length xs → is_some (entry_at xs i) ≡ false → compacted (drop i xs) ≡ compacted (drop (suc i) xs)
+goes_by xs i h l =
     let p = at xs i h in
     let a = ap live_entry p.1 in
     let c = cases_Bool (is_live p.0 (drop (i + 1) xs)) in
@@ -85,44 +38,12 @@ goes xs i h l =
 pub shown_removed : (ns : List Note) (i : ℕ) → shown (remove ns i) ≡ remove (shown ns) i
 shown_removed ns i = map-append note_contents (take i ns) (drop (suc i) ns) ∙ ap₂ (λ a b. a ++ b) (sym (take-map note_contents i ns)) (sym (drop-map note_contents (suc i) ns))
 
-goes_on : (ns : List Note) (i : ℕ) → i < length ns → is_some (entry_at (shown ns) i) ≡ false → settled (remove ns i) i ≡ settled ns i
-goes_on ns i h l =
+pub goes : (ns : List Note) (i : ℕ) → i < length ns → is_some (entry_at (shown ns) i) ≡ false → settled (remove ns i) i ≡ settled ns i
+goes ns i h l =
     let k = length-map ns note_contents in
     let t : length (take i (shown ns)) ≡ i = length-take-le i (shown ns) (omega arith) in
     let e = shown_removed ns i in
     ap₂ (λ a b. a ++ compacted b)
     (ap (take i) e ∙ take_at (take i (shown ns)) (drop (suc i) (shown ns)) i t)
     (ap (drop i) e ∙ drop_at (take i (shown ns)) (drop (suc i) (shown ns)) i t)
-    ∙ ap (λ ys. take i (shown ns) ++ ys) (sym (goes (shown ns) i (omega arith) l))
-
--- one step
-pub record Settled (ns ms : List Note) (i r : ℕ) : Type 0 where
-  pub same : settled ms r ≡ settled ns i
-  pub within : r ≤ length ms
-  pub fewer : length ms - r < length ns - i
-
-settles_by : (b : Bool) (ns ms : List Note) (i r : ℕ) → i < length ns → is_some (entry_at (shown ns) i) ≡ b → r ≡ cond b (i + 1) i → ms ≡ cond b ns (remove ns i) → Settled ns ms i r
-settles_by true ns ms i r h l e f =
-    let k = length-map ns note_contents in
-    let m = ap length f in
-    record {
-      same = ap₂ settled f e ∙ stays (shown ns) i (omega arith) l;
-      within = omega arith;
-      fewer = omega arith;
-    }
-settles_by false ns ms i r h l e f =
-    let m = ap length f in
-    let k = length-remove ns i h in
-    record {
-      same = ap₂ settled f e ∙ goes_on ns i h l;
-      within = omega arith;
-      fewer = omega arith;
-    }
-
-pub settles : (ns ms : List Note) (i r : ℕ) → i < length ns → r ≡ cond (is_some (entry_at (shown ns) i)) (i + 1) i → ms ≡ cond (is_some (entry_at (shown ns) i)) ns (remove ns i) → Settled ns ms i r
-settles ns ms i r h e f = settles_by (is_some (entry_at (shown ns) i)) ns ms i r h refl e f
-
-pub settled_all : (ns : List Note) (i : ℕ) → length ns ≤ i → settled ns i ≡ shown ns
-settled_all ns i h =
-    let k = length-map ns note_contents in
-    ap₂ (λ a b. a ++ compacted b) (take_all i (shown ns) (omega arith)) (drop_all i (shown ns) (omega arith)) ∙ append-nil (shown ns)
+    ∙ ap (λ ys. take i (shown ns) ++ ys) (sym (goes_by (shown ns) i (omega arith) l))

@@ -1,6 +1,6 @@
 -- What a put or a take that finds room, or finds none, leaves.
-use Rattle.std.proofs.Common.{◌≡◌, ℕ, zero, suc, ◌<◌, ◌≤◌, Bool, true, false, cond, not, eqb, ltb, List, [], ◌∷◌, ◌++◌, length, drop, is_some, Some, None, Ok, Err, Option, sym, refl, ap, ◌∙◌, ap₂, arith}
-use Rattle.std.proofs.lemmas.List.{length-drop}
+use Rattle.std.proofs.Common.{◌≡◌, ℕ, zero, suc, ◌<◌, ◌≤◌, Bool, true, false, cond, not, ltb, List, [], ◌∷◌, ◌++◌, length, drop, is_some, Some, None, Ok, Err, Option, sym, refl, ap, ◌∙◌, ap₂, arith}
+use Rattle.std.proofs.lemmas.List.{length-drop, length-map, length-take-le}
 use Rattle.std.proofs.lemmas.Bool.{cases_Bool, and_parts}
 use Rattle.std.proofs.lemmas.Bool.Decides.{nat_tests}
 use Rattle.std.specs.List.{remove}
@@ -19,8 +19,18 @@ use Rattle.journal.proofs.Places.{mentions_part}
 use Rattle.journal.specs.Notes.{Noted, puts, takes, Notes, entry_noted, name_noted, held_by, mentions, is_live, compacted, live_entry, entry_at, without, readied, notes_after_put, take_noted, notes_after_take}
 use Rattle.books.specs.Held.{one_each}
 use Rattle.journal.specs.Rising.{are_names}
-use Rattle.journal.specs.View.{shown}
+use Rattle.journal.specs.State.{notes_of, slots_of}
+use Rattle.journal.specs.View.{note_contents, shown}
+use Rattle.journal.specs.declared.journal.Journal.{Journal}
 use Rattle.journal.specs.declared.note.Note.{Note}
+
+-- the notes fit the slots
+pub notes_fit : (j : Journal) → length (shown (notes_of j)) ≤ slots_of j
+notes_fit j =
+    let k = length-map (notes_of j) note_contents in
+    let t = length-take-le j.shelf.count j.shelf.slots.now j.shelf.fits in
+    let f : j.shelf.count ≤ length j.shelf.slots.now = j.shelf.fits in
+    omega arith
 
 -- a name was read: the octets are a name
 pub read_some : {X : Type 0} (b : Bool) (x y : X) → Some x ≡ cond b (Some y) None → (b ≡ true) × (x ≡ y)
@@ -51,20 +61,41 @@ sought s ws e n ms ns r h k q p =
     let a = ap (λ ys. option_map (entry_at (shown ys)) r) (sym q) ∙ p ∙ ap₂ (λ m ys. some (entry_of m (held_by (shown ys)))) l q in
     record { name = d.0; place = a; held = sym (held_or_not (entry_at (shown ns)) r (entry_of (labels_of s) (held_by (shown ns))) a) }
 
-pub room_free : (capacity : ℕ) (xs : Notes) → length xs < capacity → (true ≡ ltb (length (compacted xs)) capacity) × (xs ≡ readied capacity xs)
-room_free capacity xs h = let s = compacted_short xs in (grind (arith, nat_tests), grind (arith, nat_tests))
+-- a slot is free once the notes are readied exactly if not all slots have live notes
+pub room_readied : (capacity : ℕ) (xs : Notes) → ltb (length (readied capacity xs)) capacity ≡ ltb (length (compacted xs)) capacity
+room_readied capacity xs =
+    let s = compacted_short xs in
+    let c = cases_Bool (ltb (length xs) capacity) in
+    grind (arith, nat_tests)
 
-pub room_made : (capacity : ℕ) (xs ys : Notes) → capacity ≤ length xs → length xs ≤ capacity → false ≡ eqb (length (compacted xs)) (length xs) → ys ≡ compacted xs → (true ≡ ltb (length (compacted xs)) capacity) × (ys ≡ readied capacity xs)
-room_made capacity xs ys h k l e = let s = compacted_short xs in (grind (arith, nat_tests), grind (arith, nat_tests))
+-- notes that are all live
+all_live_same : (xs : Notes) → length xs ≤ length (compacted xs) → compacted xs ≡ xs
+all_live_same [] h = refl
+all_live_same (x ∷ xs) h =
+    let r = all_live_same xs in
+    let s = compacted_short xs in
+    let c = cases_Bool (is_live x xs) in
+    grind (arith, nat_tests)
+
+-- where all slots have live notes, the notes stay as they were
+pub readied_full : (capacity : ℕ) (xs : Notes) → length xs ≤ capacity → false ≡ ltb (length (compacted xs)) capacity → readied capacity xs ≡ xs
+readied_full capacity xs k l =
+    let c = compacted_short xs in
+    let m : length xs ≤ length (compacted xs) = grind (arith, nat_tests) in
+    let q = all_live_same xs m in
+    grind (arith, nat_tests)
 
 -- a put of a name that is not held
 put_answer : (capacity : ℕ) (xs : Notes) (s : Octets) → are_names xs ≡ true → is_name s ≡ true → is_some (entry_of (labels_of s) (held_by xs)) ≡ false
     → of_name s (put_name capacity one_each (held_by xs)) ≡ cond (ltb (length (compacted xs)) capacity) (Ok tt) (Err BookFull)
 put_answer capacity xs s i n h = let p = spent_live xs i in grind (arith, nat_tests)
 
-pub put_full : (capacity : ℕ) (xs : Notes) (s : Octets) (ws : Words) → are_names xs ≡ true → is_name s ≡ true → is_some (entry_of (labels_of s) (held_by xs)) ≡ false → false ≡ ltb (length (compacted xs)) capacity
-    → (Err BookFull ≡ of_name s (put_name capacity one_each (held_by xs))) × (xs ≡ notes_after_put capacity xs s ws)
-put_full capacity xs s ws i n h l = let a = put_answer capacity xs s i n h in (grind (arith, nat_tests), grind (arith, nat_tests))
+pub put_full : (capacity : ℕ) (xs : Notes) (s : Octets) (ws : Words) → are_names xs ≡ true → is_name s ≡ true → is_some (entry_of (labels_of s) (held_by xs)) ≡ false → length xs ≤ capacity → false ≡ ltb (length (compacted xs)) capacity
+    → (Err BookFull ≡ of_name s (put_name capacity one_each (held_by xs))) × (readied capacity xs ≡ notes_after_put capacity xs s ws)
+put_full capacity xs s ws i n h k l =
+    let a = put_answer capacity xs s i n h in
+    let w = readied_full capacity xs k l in
+    (grind (arith, nat_tests), grind (arith, nat_tests))
 
 pub put_done : (capacity : ℕ) (xs : Notes) (s : Octets) (ws : Words) → are_names xs ≡ true → is_name s ≡ true → is_some (entry_of (labels_of s) (held_by xs)) ≡ false → true ≡ ltb (length (compacted xs)) capacity
     → (Ok tt ≡ of_name s (put_name capacity one_each (held_by xs))) × (readied capacity xs ++ (puts (stored s ws) ∷ []) ≡ notes_after_put capacity xs s ws)
@@ -80,15 +111,6 @@ take_answer xs s n h = grind (arith, nat_tests)
 pub take_done : (capacity : ℕ) (xs : Notes) (s : Octets) → is_name s ≡ true → is_some (entry_of (labels_of s) (held_by xs)) ≡ true → true ≡ ltb (length (compacted xs)) capacity
     → readied capacity xs ++ (takes (stored s no_types) ∷ []) ≡ notes_after_take capacity xs s
 take_done capacity xs s n h l = let r = readied_room capacity xs l in grind (arith, nat_tests)
-
--- notes that are all live
-all_live_same : (xs : Notes) → length xs ≤ length (compacted xs) → compacted xs ≡ xs
-all_live_same [] h = refl
-all_live_same (x ∷ xs) h =
-    let r = all_live_same xs in
-    let s = compacted_short xs in
-    let c = cases_Bool (is_live x xs) in
-    grind (arith, nat_tests)
 
 without_other : (n : Labels) (xs : Notes) → mentions n xs ≡ false → without n xs ≡ xs
 without_other n [] h = refl
@@ -137,12 +159,9 @@ found_by n (y ∷ ys) (Some e) f p =
 found : (n : Labels) (xs : Notes) (i : ℕ) → Some (entry_at xs i) ≡ some (entry_of n (held_by xs)) → Found n (drop i xs)
 found n xs i p = found_by n (drop i xs) (entry_of n (held_by xs)) (entry_named n (held_by xs)) p
 
-pub found_within : (n : Labels) (xs : Notes) (i : ℕ) → Some (entry_at xs i) ≡ some (entry_of n (held_by xs)) → i < length xs
-found_within n xs i p = let d = length-drop i xs in let l = ap length (found n xs i p).is in omega arith
-
 -- a take where all slots have live notes
 pub take_full : (capacity : ℕ) (xs : Notes) (s : Octets) (i : ℕ) → is_name s ≡ true → length xs ≤ capacity → false ≡ ltb (length (compacted xs)) capacity → Some (entry_at xs i) ≡ some (entry_of (labels_of s) (held_by xs))
-    → remove xs i ≡ notes_after_take capacity xs s
+    → remove (readied capacity xs) i ≡ notes_after_take capacity xs s
 take_full capacity xs s i n k l p =
     let f = found (labels_of s) xs i p in
     let h = sym (held_or_not (entry_at xs) (Some i) (entry_of (labels_of s) (held_by xs)) p) in
@@ -151,7 +170,7 @@ take_full capacity xs s i n k l p =
     let q = all_live_same xs m in
     let a : apart xs ≡ true = ap apart (sym q) ∙ compacted_apart xs in
     let r = removed_without (labels_of s) xs i f.note f.later a f.is f.same in
-    let w : readied capacity xs ≡ xs = grind (arith, nat_tests) in
+    let w = readied_full capacity xs k l in
     let t : take_noted capacity xs s ≡ without (labels_of s) xs = grind (arith, nat_tests) in
     let b : notes_after_take capacity xs s ≡ take_noted capacity (readied capacity xs) s = grind (arith, nat_tests) in
-    r ∙ sym t ∙ ap (λ ys. take_noted capacity ys s) (sym w) ∙ sym b
+    ap (λ ys. remove ys i) w ∙ r ∙ sym t ∙ ap (λ ys. take_noted capacity ys s) (sym w) ∙ sym b

@@ -4,7 +4,7 @@ use Rattle.names.specs.Canonical.{same_name}
 use Rattle.names.specs.Types.{Words, no_types}
 use Rattle.names.specs.Wire.{Octets, Labels, labels_of}
 use Rattle.books.specs.Answers.{of_name, put_name, take_name}
-use Rattle.books.specs.Held.{Entry, Held, less, with_entry, without_name, one_each}
+use Rattle.books.specs.Held.{Entry, Held, with_entry, without_name, one_each}
 use Rattle.books.specs.Stored.{stored}
 
 -- all that the slot of a name has: its octets, how many of these are the name, and the types
@@ -89,8 +89,3 @@ take_noted capacity xs s = cond (nat_lt (length xs) capacity) (xs ++ (takes (sto
 
 abbrev pub notes_after_take : ℕ → Notes → Octets → Notes
 notes_after_take capacity xs s = cond (is_ok (of_name s (take_name (held_by xs)))) (take_noted capacity (readied capacity xs) s) xs
-
--- a name comes before an entry, if there is one
-abbrev pub before : Labels → Option Entry → Bool
-before n None = true
-before n (Some e) = less n e.0

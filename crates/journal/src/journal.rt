@@ -1,5 +1,3 @@
-ghost use Rattle.std.specs.Prelude.{◌≤◌, length};
-
 use crate::note::Note;
 use shelf::Shelf;
 
@@ -10,5 +8,4 @@ mod keeping;
 #[derive(Drop)]
 pub struct Journal<'a> {
     shelf: Shelf<'a, Note>,
-    ghost fits: { shelf.count ≤ length shelf.slots.now },
 }

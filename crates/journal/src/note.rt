@@ -1,7 +1,7 @@
 // A note of a journal.
 ghost use Rattle.std.specs.Prelude.{◌≡◌, true};
 ghost use Rattle.books.specs.Stored.{blank as blank_contents};
-ghost use Rattle.journal.specs.Notes.{takes, is_put, entry_noted, name_noted};
+ghost use Rattle.journal.specs.Notes.{takes, is_put, name_noted};
 ghost use Rattle.journal.specs.View.{note_contents};
 ghost use Rattle.names.specs.TypeView.{words as words_in};
 ghost use Rattle.names.specs.View.{octets as octets_in, labels as labels_in};
@@ -35,22 +35,9 @@ impl Note {
 
     // The name that was put or taken.
     pub(crate) fn name(&self) -> Name<'_>
-        ensures labels { labels_in result ≡ name_noted (note_contents self.now) }
-        ensures name { is_name (octets_in result) ≡ true }
+        ensures { labels_in result ≡ name_noted (note_contents self.now) }
     {
-        match self {
-            Note::Put(named) => named.name(),
-            Note::Take(named) => named.name(),
-        }
-    }
-
-    // Its types.
-    pub(crate) fn types(&self) -> TypeSet
-        ensures { words_in result ≡ (entry_noted (note_contents self.now)).1 }
-    {
-        match self {
-            Note::Put(named) => named.types(),
-            Note::Take(named) => named.types(),
-        }
+        let (Note::Put(named) | Note::Take(named)) = self;
+        named.name()
     }
 }

@@ -1,34 +1,16 @@
 // Entries of any kind in slots that the caller lends.
 #![tactic(auto)]
 
-ghost use Rattle.std.specs.Prelude.{◌≡◌, ◌+◌, ◌<◌, ◌≤◌, ◌++◌, length, take, drop};
+ghost use Rattle.std.specs.Prelude.{◌≡◌, ◌≤◌, length};
 ghost use Rattle.shelf.specs.Entries.{live, can_put, put_slots, put_count, taken, take_slots, take_count};
-ghost use Rattle.std.specs.List.{insert, remove};
-
-// The entries from i on, of n, move up by one, and x stands at i.
-fn insert_at<T: Copy>(slots: &mut [T], n: usize, i: usize, x: T)
-    requires { (i ≤ n) × (n < length slots.old) }
-    ensures { slots.new ≡ insert (live slots.old n) i x ++ drop (n + 1) slots.old }
-{
-    let part = &mut slots[i..n + 1];
-    part.rotate_right(1);
-    slots[i] = x;
-}
-
-// The entries after i, of n, move down by one, and the entry from i stands behind them.
-fn remove_at<T: Copy>(slots: &mut [T], n: usize, i: usize)
-    requires { (i < n) × (n ≤ length slots.old) }
-    ensures { slots.new ≡ remove (live slots.old n) i ++ (take 1 (drop i slots.old) ++ drop n slots.old) }
-{
-    let part = &mut slots[i..n];
-    part.rotate_left(1);
-}
 
 // The first slots have the entries, in their sequence.
+// Kept: a buffer with its count beside it, since the library has no heap: the slots are lent memory.
 #[derive(Drop)]
 pub struct Shelf<'a, T> {
     slots: &'a mut [T],
     count: usize,
+    ghost fits: { count ≤ length slots.now },
 }
 
 impl<'a, T: Copy> Shelf<'a, T> {
@@ -51,8 +33,7 @@ impl<'a, T: Copy> Shelf<'a, T> {
     pub fn entries(&self) -> &[T]
         ensures { result.now ≡ live self.now.slots.now self.now.count }
     {
-        let n = self.count.min(self.slots.len());
-        &self.slots[0..n]
+        &self.slots[..self.count]
     }
 
     // Puts x at i, before what stands there; false, and nothing altered, where no slot is free or i is past the entries.
@@ -62,10 +43,11 @@ impl<'a, T: Copy> Shelf<'a, T> {
         ensures count { self.new.count ≡ put_count self.old.slots.now self.old.count i }
     {
         let n = self.count;
-        if n >= self.slots.len() || i > n {
+        if n == self.slots.len() || i > n {
             return false;
         }
-        insert_at(self.slots, n, i, x);
+        self.slots[i..n + 1].rotate_right(1);
+        self.slots[i] = x;
         self.count = n + 1;
         true
     }
@@ -76,13 +58,9 @@ impl<'a, T: Copy> Shelf<'a, T> {
         ensures slots { self.new.slots.now ≡ take_slots self.old.slots.now self.old.count i }
         ensures count { self.new.count ≡ take_count self.old.slots.now self.old.count i }
     {
-        let n = self.count;
-        if i >= n || n > self.slots.len() {
-            return None;
-        }
-        let x = self.slots[i];
-        remove_at(self.slots, n, i);
-        self.count = n - 1;
+        let x = *self.entries().get(i)?;
+        self.slots[i..self.count].rotate_left(1);
+        self.count -= 1;
         Some(x)
     }
 }

@@ -1,3 +1,4 @@
 mod Ranking
 mod Tabling
 mod Slots
+mod Searching

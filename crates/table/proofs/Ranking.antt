@@ -1,11 +1,5 @@
 -- Ranks in a list that rises.
-use Rattle.std.proofs.Common.{◌≡◌, ℕ, zero, suc, ◌+◌, ◌<◌, ◌≤◌, true, false, cond, ltb, ◌⊎◌, List, [], ◌∷◌, length, get_or, Some, None, Option, Ordering, Less, Equal, Greater, sym, refl, ap, ◌∙◌, inl, inr, ⊎_elim, arith}
-use native.Mathlib.Numerals.{unary_clauses}
-use Rattle.std.proofs.lemmas.List.{get_or-map, length-map}
-use Rattle.std.specs.Ordering.{is_lt}
-use Rattle.names.specs.Canonical.{canonical}
-use Rattle.books.specs.Stored.{entry_in}
-use Rattle.books.specs.declared.named.Named.{Named}
+use Rattle.std.proofs.Common.{◌≡◌, ℕ, ◌≤◌, true, cond, ◌⊎◌, [], ◌∷◌, length, Some, None, Option, sym, refl, ap, ◌∙◌, inl, inr, ⊎_elim, arith}
 use Rattle.std.proofs.lemmas.Bool.{cases_Bool}
 use Rattle.std.proofs.lemmas.Bool.Decides.{nat_tests}
 use Rattle.std.specs.List.{slice_get, insert, remove}
@@ -13,29 +7,13 @@ use Rattle.names.proofs.Ordered.{same_name_true, same_name_refl}
 use Rattle.names.specs.Canonical.{same_name}
 use Rattle.names.specs.Wire.{Labels}
 use Rattle.books.proofs.Keeps.{less_other, none_before}
-use Rattle.books.proofs.Rising.{less_irreflexive, less_transitive, less_apart, less_not_back, rises_tail, after_entry}
-use Rattle.books.specs.Held.{Entry, Held, less, rises_from, rises, entry_of, entry_after, first_entry, with_entry, without_name}
-use Rattle.table.specs.Ranks.{entries_in, rank}
+use Rattle.books.proofs.Rising.{less_irreflexive, less_apart, less_not_back, rises_tail}
+use Rattle.books.specs.Held.{Entry, Held, less, rises_from, rises, entry_of, with_entry, without_name}
+use Rattle.table.specs.Ranks.{rank}
 
 pub rank_most : (n : Labels) (hs : Held) → rank n hs ≤ length hs
 rank_most n [] = omega arith
 rank_most n (e ∷ es) = let r = rank_most n es in let c = cases_Bool (less e.0 n) in grind (arith, nat_tests)
-
--- what stands before a list that starts with no lesser name than n has no lesser one behind
-rank_none : (n m : Labels) (hs : Held) → rises_from m hs ≡ true → less m n ≡ false → rank n hs ≡ 0
-rank_none n m [] h k = refl
-rank_none n m (e ∷ es) h k = let t = less_transitive m e.0 n in let c = cases_Bool (less e.0 n) in grind (arith, nat_tests)
-
--- the entries before the rank are the lesser ones
-pub rank_splits : (n : Labels) (hs : Held) (d : Entry) (i : ℕ) → rises hs ≡ true → i < length hs → less (get_or hs i d).0 n ≡ ltb i (rank n hs)
-rank_splits n [] d i h l = absurd (omega arith)
-rank_splits n (e ∷ es) d zero h l = let c = cases_Bool (less e.0 n) in grind (arith, nat_tests)
-rank_splits n (e ∷ es) d (suc i) h l =
-    let t = rises_tail e.0 es h in
-    let c = cases_Bool (less e.0 n) in
-    let r = rank_splits n es d i t (omega arith) in
-    let z = rank_none n e.0 es h in
-    grind (arith, nat_tests)
 
 -- the entry of a name, if it has one, stands at the rank
 abbrev pub same_at : Labels → Option Entry → Option Entry
@@ -53,24 +31,6 @@ rank_entry n (e ∷ es) h =
     let b = none_before n e.0 es h in
     grind (arith, nat_tests)
 
--- the entry after a name that is not held stands at the rank, and after one that is held behind it
-pub rank_after : (n : Labels) (hs : Held) → rises hs ≡ true → entry_of n hs ≡ None → entry_after n hs ≡ slice_get hs (rank n hs)
-rank_after n [] h k = refl
-rank_after n (e ∷ es) h k =
-    let t = rises_tail e.0 es h in
-    let r = rank_after n es t in
-    let c = cases_Bool (less e.0 n) in
-    let s = cases_Bool (same_name n e.0) in
-    let a = less_not_back e.0 n in
-    let o = less_other e.0 n in
-    let o2 = less_other n e.0 in
-    let d = cases_Bool (less n e.0) in
-    grind (arith, nat_tests)
-
-pub nth_first : (hs : Held) → slice_get hs 0 ≡ first_entry hs
-nth_first [] = refl
-nth_first (e ∷ es) = refl
-
 -- a held name is the first entry's, or it is greater and stands behind
 either : (n : Labels) (e f : Entry) (es : Held) → rises_from e.0 es ≡ true → entry_of n (e ∷ es) ≡ Some f → (n ≡ e.0) ⊎ ((less e.0 n ≡ true) × (entry_of n es ≡ Some f))
 either n e f es h k =
@@ -80,20 +40,6 @@ either n e f es h k =
     let t : entry_of n es ≡ Some f = sym (rw s) ∙ k in
     inr (⊎_elim (λ l. l) (λ l. absurd (let b = none_before n e.0 es h l in let z : ◌≡◌ {A = ℕ} 0 1 = cc in omega arith)) (cases_Bool (less e.0 n)), t))
     (cases_Bool (same_name n e.0))
-
-pub rank_next : (n : Labels) (hs : Held) (f : Entry) → rises hs ≡ true → entry_of n hs ≡ Some f → entry_after n hs ≡ slice_get hs (rank n hs + 1)
-rank_next n [] f h k = absurd (let z : ◌≡◌ {A = ℕ} 0 1 = cc in omega arith)
-rank_next n (e ∷ es) f h k =
-    ⊎_elim
-    (λ s.
-    let i = less_irreflexive e.0 in
-    let w : slice_get (e ∷ es) (rank e.0 (e ∷ es) + 1) ≡ slice_get es 0 = rw i refl in
-    ap (λ y. entry_after y (e ∷ es)) s ∙ after_entry [] e es h ∙ sym (nth_first es) ∙ sym w ∙ sym (ap (λ y. slice_get (e ∷ es) (rank y (e ∷ es) + 1)) s))
-    (λ p.
-    let r = rank_next n es f (rises_tail e.0 es h) p.1 in
-    let b = less_not_back e.0 n p.0 in
-    rw (p.0, b) (simp unary_clauses (simp unary_clauses at r)))
-    (either n e f es h k)
 
 -- an entry goes in at the rank of its name, and a name comes out there
 pub rank_with : (e : Entry) (hs : Held) → rises hs ≡ true → entry_of e.0 hs ≡ None → with_entry e hs ≡ insert hs (rank e.0 hs) e
@@ -121,16 +67,3 @@ rank_without n (e ∷ es) f h k =
     let b = less_apart e.0 n p.0 in
     rw (p.0, b) (ap (λ l. e ∷ l) r))
     (either n e f es h k)
-
--- what comparing with the entry in a slot says
-pub probe : (n m : Labels) (es : List Named) (x : Named) (i : ℕ) (o : Ordering) → rises (entries_in es) ≡ true → i < length es → x ≡ get_or es i x → m ≡ (entry_in x).0 → o ≡ canonical m n → is_lt o ≡ ltb i (rank n (entries_in es))
-probe n m es x i o h l p e q =
-    let g : get_or (entries_in es) i (entry_in x) ≡ entry_in (get_or es i x) = get_or-map entry_in es i x (entry_in x) l in
-    let w : m ≡ (get_or (entries_in es) i (entry_in x)).0 = e ∙ ap (λ z. (entry_in z).0) p ∙ sym (ap (λ z. z.0) g) in
-    let k = length-map es entry_in in
-    ap is_lt q ∙ ap (λ z. less z n) w ∙ rank_splits n (entries_in es) (entry_in x) i h (omega arith)
-
-pub not_less : (o : Ordering) → (o ≡ Less → ⊥) → is_lt o ≡ false
-not_less Less n = absurd (n refl)
-not_less Equal n = refl
-not_less Greater n = refl

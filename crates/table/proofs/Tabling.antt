@@ -1,13 +1,12 @@
 -- A table once an entry was put in or taken out.
-use Rattle.std.proofs.Common.{◌≡◌, ℕ, zero, suc, ◌+◌, ◌<◌, ◌≤◌, Bool, true, false, cond, ltb, leb, List, [], ◌∷◌, map, length, get_or, is_some, is_ok, Some, None, Ok, Err, Option, sym, refl, ap, ◌∙◌, ap₂, ⊎_elim, arith}
-use Rattle.std.proofs.lemmas.List.{length-map, length-take, get_or-map}
-use Rattle.std.proofs.lemmas.Option.{slice_get-get_or, slice_get_past}
+use Rattle.std.proofs.Common.{◌≡◌, ℕ, zero, suc, ◌+◌, ◌<◌, ◌≤◌, Bool, true, false, cond, ltb, leb, List, [], ◌∷◌, map, length, is_some, is_ok, Some, None, Ok, Err, Option, sym, refl, ap, ◌∙◌, ap₂, ⊎_elim, arith}
+use Rattle.std.proofs.lemmas.List.{length-map, length-take}
+use Rattle.std.proofs.lemmas.Option.{slice_get_past}
 use Rattle.std.proofs.lemmas.Bool.{cases_Bool}
-use Rattle.std.specs.List.{slice_get, insert, remove}
+use Rattle.std.specs.List.{insert, remove}
 use Rattle.names.proofs.Undo.{are_labels_lem}
 use Rattle.names.proofs.Reader.{some_same, was_read}
 use Rattle.names.specs.Types.{Words}
-use Rattle.names.specs.Canonical.{same_name}
 use Rattle.names.specs.Wire.{Octets, Labels, is_name, is_labels, labels_of}
 use Rattle.shelf.proofs.Live.{put_all, take_all}
 use Rattle.shelf.specs.Entries.{live, can_put, put_slots, put_count, take_slots, take_count}
@@ -20,30 +19,6 @@ use Rattle.books.specs.declared.named.Named.{Named}
 use Rattle.table.proofs.Ranking.{rank_most, rank_entry, rank_with, rank_without, same_at}
 use Rattle.table.specs.Ranks.{entries_in, rank, standing}
 use Rattle.books.specs.Held.{one_each}
-
--- what stands at the rank says whether a name is held
-pub there : (n m : Labels) (es : List Named) (x : Named) (i : ℕ) (b : Bool) → rises (entries_in es) ≡ true → i ≡ rank n (entries_in es) → i < length es → x ≡ get_or es i x → m ≡ (entry_in x).0 → b ≡ same_name n m → is_some (entry_of n (entries_in es)) ≡ b
-there n m es x i b h r l p e q =
-    let k = length-map es entry_in in
-    let g : slice_get (entries_in es) i ≡ Some (entry_in x) = slice_get-get_or (entries_in es) i (entry_in x) (omega arith) ∙ ap Some (get_or-map entry_in es i x (entry_in x) l ∙ ap entry_in (sym p)) in
-    let u : entry_of n (entries_in es) ≡ same_at n (Some (entry_in x)) = rank_entry n (entries_in es) h ∙ ap (λ j. same_at n (slice_get (entries_in es) j)) (sym r) ∙ ap (same_at n) g in
-    let v : same_name n (entry_in x).0 ≡ b = ap (same_name n) (sym e) ∙ sym q in
-    ap is_some u ∙ rw v (some_by b (entry_in x))
-  where
-    some_by : (b : Bool) (e : Entry) → is_some (cond b (Some e) None) ≡ b
-    some_by true e = refl
-    some_by false e = refl
-
-pub behind : (n : Labels) (es : List Named) (i : ℕ) → rises (entries_in es) ≡ true → i ≡ rank n (entries_in es) → length es ≤ i → is_some (entry_of n (entries_in es)) ≡ false
-behind n es i h r l =
-    let k = length-map es entry_in in
-    ap is_some (rank_entry n (entries_in es) h ∙ ap (λ j. same_at n (slice_get (entries_in es) j)) (sym r) ∙ ap (same_at n) (slice_get_past (entries_in es) i (omega arith)))
-
-pub standing_as : (n : Labels) (es fs : List Named) (i : ℕ) (b : Bool) → es ≡ fs → i ≡ rank n (entries_in es) → is_some (entry_of n (entries_in es)) ≡ b → cond b (Ok i) (Err i) ≡ standing n (entries_in fs)
-standing_as n es fs i b e r t =
-    let u : is_some (entry_of n (entries_in fs)) ≡ b = ap (λ z. is_some (entry_of n (entries_in z))) (sym e) ∙ t in
-    let v : i ≡ rank n (entries_in fs) = r ∙ ap (λ z. rank n (entries_in z)) e in
-    rw u (ap (λ j. cond b (Ok j) (Err j)) v)
 
 -- what a position says
 pub record Missing (n : Labels) (hs : Held) (i : ℕ) : Type 0 where
@@ -108,7 +83,6 @@ map_removed f (y ∷ ys) (suc i) = ap (λ l. f y ∷ l) (map_removed f ys i)
 
 -- the slots and their number once an entry was put in at its rank, or refused for want of a slot
 pub record Grown (s : List Named) (n : ℕ) (x : Named) (t : List Named) (m : ℕ) (r : Bool) : Type 0 where
-  pub fits : m ≤ length t
   pub sorted : rises (entries_in (live t m)) ≡ true
   pub slots : length t ≡ length s
   pub room : r ≡ leb (spent one_each (entries_in (live s n)) + 1) (length s)
@@ -121,21 +95,19 @@ count_is s n l = let u = length-take n s in let v = length-map (live s n) entry_
 room_is : (s : List Named) (n : ℕ) → n ≤ length s → leb (spent one_each (entries_in (live s n)) + 1) (length s) ≡ ltb n (length s)
 room_is s n l = let u = count_is s n l in let w = spent_ones (entries_in (live s n)) in let a = cases_Bool (ltb n (length s)) in let b = cases_Bool (leb (spent one_each (entries_in (live s n)) + 1) (length s)) in grind arith
 
-grown_by : (s : List Named) (n i : ℕ) (x : Named) (t : List Named) (m : ℕ) (r : Bool) → n ≤ length s → rises (entries_in (live s n)) ≡ true → Missing (entry_in x).0 (entries_in (live s n)) i → is_labels (entry_in x).0 ≡ true → r ≡ ltb n (length s) → live t m ≡ cond r (insert (live s n) i x) (live s n) → length t ≡ length s → m ≤ length t → Grown s n x t m r
-grown_by s n i x t m true l h p k e a b c =
+grown_by : (s : List Named) (n i : ℕ) (x : Named) (t : List Named) (m : ℕ) (r : Bool) → n ≤ length s → rises (entries_in (live s n)) ≡ true → Missing (entry_in x).0 (entries_in (live s n)) i → is_labels (entry_in x).0 ≡ true → r ≡ ltb n (length s) → live t m ≡ cond r (insert (live s n) i x) (live s n) → length t ≡ length s → Grown s n x t m r
+grown_by s n i x t m true l h p k e a b =
     let w = rank_with (entry_in x) (entries_in (live s n)) h p.none in
     let v : entries_in (live t m) ≡ with_entry (entry_in x) (entries_in (live s n)) = ap entries_in a ∙ map_inserted entry_in (live s n) i x ∙ ap (λ j. insert (entries_in (live s n)) j (entry_in x)) p.at ∙ sym w in
     record {
-      fits = c;
       sorted = ap rises v ∙ rises_with (entry_in x) (entries_in (live s n)) h k p.none;
       slots = b;
       room = e ∙ sym (room_is s n l);
       held = v;
       kept = ap (map contents) a ∙ map_inserted contents (live s n) i x ∙ ap (λ j. insert (map contents (live s n)) j (contents x)) p.at;
     }
-grown_by s n i x t m false l h p k e a b c =
+grown_by s n i x t m false l h p k e a b =
     record {
-      fits = c;
       sorted = ap (λ y. rises (entries_in y)) a ∙ h;
       slots = b;
       room = e ∙ sym (room_is s n l);
@@ -153,11 +125,9 @@ grown s n i x t m r l h p e a b =
     grown_by s n i x t m r l h p (are_labels_lem _ x.name) f
     (ap₂ live a b ∙ w.entries ∙ sym (ap (λ z. cond z (insert (live s n) i x) (live s n)) f))
     (ap length a ∙ w.slots)
-    (let g = w.fits in let y = ap length a in omega arith)
 
 -- the slots and their number once an entry was taken out
 pub record Shrunk (s : List Named) (n : ℕ) (name : Labels) (t : List Named) (m : ℕ) : Type 0 where
-  pub fits : m ≤ length t
   pub sorted : rises (entries_in (live t m)) ≡ true
   pub slots : length t ≡ length s
   pub held : entries_in (live t m) ≡ without_name name (entries_in (live s n))
@@ -171,7 +141,6 @@ shrunk s n i name t m l h p a b =
     let e : live t m ≡ remove (live s n) i = ap₂ live a b ∙ w.entries in
     let v : entries_in (live t m) ≡ without_name name (entries_in (live s n)) = ap entries_in e ∙ map_removed entry_in (live s n) i ∙ ap (remove (entries_in (live s n))) p.at ∙ sym (rank_without name (entries_in (live s n)) p.entry h p.some) in
     record {
-      fits = (let g = w.fits in let y = ap length a in omega arith);
       sorted = ap rises v ∙ rises_without name (entries_in (live s n)) h;
       slots = ap length a ∙ w.slots;
       held = v;

@@ -8,7 +8,6 @@ ghost use Rattle.table.specs.Tables.{in_use, held_by, slot_count, kept, inserted
 ghost use Rattle.books.specs.Held.{one_each};
 
 use crate::Table;
-use crate::searching::rank;
 use books::named::Named;
 use names::name::Name;
 use names::refusal::Refusal;
@@ -33,24 +32,12 @@ impl<'a> Table<'a> {
         self.shelf.entries()
     }
 
-    // How many slots there are.
-    pub(crate) fn slots(&self) -> usize
-        ensures { result ≡ slot_count self.now }
-    {
-        self.shelf.capacity()
-    }
-
     // The index of a name's entry, or else the index at which it would stand.
     pub(crate) fn position(&self, name: &Name<'_>) -> Result<usize, usize>
         ensures { result ≡ standing (labels_in name.now) (held_by self.now) }
     {
-        let entries = self.entries();
-        let i = rank(entries, name);
-        if i < entries.len() && name.is_same(&entries[i].name()) {
-            Ok(i)
-        } else {
-            Err(i)
-        }
+        self.entries()
+            .binary_search_by(|entry| entry.name().compare(name))
     }
 
     // One entry more, in its place; the slots behind it move up by one.

@@ -1,5 +1,7 @@
 // A table as a book.
-ghost use Rattle.std.specs.Prelude.{◌≡◌, ◌+◌, length, if◌then◌else◌, Some, None, nat_lt};
+ghost use Rattle.std.specs.Prelude.{◌≡◌};
+ghost use Rattle.std.specs.Option.{option_map};
+ghost use Rattle.books.specs.Answers.{some};
 ghost use Rattle.table.specs.Tables.{held_by, slot_count, entry_at};
 ghost use Rattle.books.specs.Held.{one_each};
 
@@ -12,40 +14,25 @@ use names::types::TypeSet;
 impl Table<'_> {
     // An index as a slot number, if there is an entry.
     fn slot(&self, i: usize) -> Option<usize>
-        ensures { result ≡ (if nat_lt i (length (held_by self.now)) then Some i else None) }
+        ensures { option_map (entry_at self.now) result ≡ some (entry_at self.now i) }
     {
-        if i < self.entries().len() {
-            Some(i)
-        } else {
-            None
-        }
-    }
-
-    // The index after an index as a slot number, if there is an entry.
-    fn slot_after(&self, i: usize) -> Option<usize>
-        ensures { result ≡ (if nat_lt (i + 1) (length (held_by self.now)) then Some (i + 1) else None) }
-    {
-        if i < self.entries().len() {
-            self.slot(i + 1)
-        } else {
-            None
-        }
+        (i < self.entries().len()).then_some(i)
     }
 }
 
 impl<'a> Book for Table<'a> {
-    ghost held = { λ t. held_by t };
+    ghost held = { held_by };
 
     ghost rising = { λ t. t.sorted };
 
-    ghost most = { λ t. slot_count t };
+    ghost most = { slot_count };
 
-    ghost charge = { λ _ n. one_each n };
+    ghost charge = { λ _. one_each };
 
-    ghost entry = { λ t i. entry_at t i };
+    ghost entry = { entry_at };
 
     fn capacity(&self) -> usize {
-        self.slots()
+        self.shelf.capacity()
     }
 
     fn cost(&self, name: &[u8]) -> Result<usize, Refusal> {
@@ -60,10 +47,10 @@ impl<'a> Book for Table<'a> {
 
     fn next(&self, name: &[u8]) -> Result<Option<usize>, Refusal> {
         let name = Name::read(name)?;
-        match self.position(&name) {
-            Ok(i) => Ok(self.slot_after(i)),
-            Err(i) => Ok(self.slot(i)),
-        }
+        let after = self
+            .entries()
+            .partition_point(|entry| entry.name().compare(&name).is_le());
+        Ok(self.slot(after))
     }
 
     fn first(&self) -> Option<usize> {
@@ -71,19 +58,13 @@ impl<'a> Book for Table<'a> {
     }
 
     fn types(&self, slot: usize) -> Option<TypeSet> {
-        let entries = self.entries();
-        if slot >= entries.len() {
-            return None;
-        }
-        Some(entries[slot].types())
+        let entry = self.entries().get(slot)?;
+        Some(entry.types())
     }
 
     fn write_name(&self, slot: usize, out: &mut [u8; MAX_NAME]) -> Option<usize> {
-        let entries = self.entries();
-        if slot >= entries.len() {
-            return None;
-        }
-        Some(entries[slot].name().write_lower(out))
+        let entry = self.entries().get(slot)?;
+        Some(entry.name().write_lower(out))
     }
 
     fn put(&mut self, name: &[u8], types: &TypeSet) -> Result<(), Refusal> {

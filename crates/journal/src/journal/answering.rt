@@ -2,11 +2,10 @@
 ghost use Rattle.journal.specs.Notes.{held_by, entry_at};
 ghost use Rattle.books.specs.Held.{one_each};
 ghost use Rattle.journal.specs.Rising.{journal_rises};
-ghost use Rattle.journal.specs.State.{notes_of, slots_of};
-ghost use Rattle.journal.specs.View.{shown};
+ghost use Rattle.journal.specs.State.{notes_shown, slots_of};
 
 use crate::journal::Journal;
-use crate::scan::{is_live, least, least_after, put_of};
+use crate::scan::{least, least_after, live_at, put_of};
 use books::book::Book;
 use names::name::{MAX_NAME, Name};
 use names::refusal::Refusal;
@@ -16,7 +15,7 @@ use names::types::TypeSet;
 const NAME_COST: usize = 1;
 
 impl<'a> Book for Journal<'a> {
-    ghost held = { λ j. held_by (shown (notes_of j)) };
+    ghost held = { λ j. held_by (notes_shown j) };
 
     ghost rising = { journal_rises };
 
@@ -24,7 +23,7 @@ impl<'a> Book for Journal<'a> {
 
     ghost charge = { λ _. one_each };
 
-    ghost entry = { λ j. entry_at (shown (notes_of j)) };
+    ghost entry = { λ j. entry_at (notes_shown j) };
 
     fn capacity(&self) -> usize {
         self.shelf.capacity()
@@ -50,20 +49,11 @@ impl<'a> Book for Journal<'a> {
     }
 
     fn types(&self, slot: usize) -> Option<TypeSet> {
-        let notes = self.notes();
-        if is_live(notes, slot) {
-            Some(notes[slot].types())
-        } else {
-            None
-        }
+        Some(live_at(self.notes(), slot)?.types())
     }
 
     fn write_name(&self, slot: usize, out: &mut [u8; MAX_NAME]) -> Option<usize> {
-        let notes = self.notes();
-        if !is_live(notes, slot) {
-            return None;
-        }
-        Some(notes[slot].name().write_lower(out))
+        Some(live_at(self.notes(), slot)?.name().write_lower(out))
     }
 
     fn put(&mut self, name: &[u8], types: &TypeSet) -> Result<(), Refusal> {

@@ -1,16 +1,15 @@
 // The notes of a journal, and how they are kept.
-ghost use Rattle.std.specs.Prelude.{◌≡◌, ◌+◌, ◌<◌, [], ◌∷◌, ◌++◌, length, is_some, if◌then◌else◌, nat_lt};
+ghost use Rattle.std.specs.Prelude.{◌≡◌, ◌<◌, [], ◌∷◌, ◌++◌, length, nat_lt};
 ghost use Rattle.books.specs.Answers.{of_name, put_name, take_name};
-ghost use Rattle.journal.specs.Notes.{held_by, compacted, entry_at, readied, notes_after_put, notes_after_take};
+ghost use Rattle.journal.specs.Notes.{held_by, compacted, readied, notes_after_put, notes_after_take};
 ghost use Rattle.books.specs.Held.{one_each};
-ghost use Rattle.journal.specs.State.{all_slots, slots_of, notes_of};
-ghost use Rattle.journal.specs.View.{shown};
+ghost use Rattle.journal.specs.State.{all_slots, slots_of, notes_of, notes_shown};
 ghost use Rattle.names.specs.TypeView.{words as words_in};
 ghost use Rattle.std.specs.List.{remove};
 
 use crate::journal::Journal;
 use crate::note::Note;
-use crate::scan::{all_live, is_live, put_of};
+use crate::scan::{live_at, put_of};
 use books::named::Named;
 use names::refusal::Refusal;
 use names::types::TypeSet;
@@ -53,51 +52,38 @@ impl<'a> Journal<'a> {
         self.shelf.take(i);
     }
 
-    // Removes the note at i unless it is live, and answers the index of the note after it.
-    fn settle(&mut self, i: usize) -> usize
-        requires { i < length (notes_of self.old) }
-        ensures next { result ≡ (if is_some (entry_at (shown (notes_of self.old)) i) then i + 1 else i) }
-        ensures notes { notes_of self.new ≡ (if is_some (entry_at (shown (notes_of self.old)) i) then notes_of self.old else remove (notes_of self.old) i) }
-        ensures slots { slots_of self.new ≡ slots_of self.old }
-    {
-        if is_live(self.notes(), i) {
-            return i + 1;
-        }
-        self.remove(i);
-        i
-    }
-
     // Removes all notes that are not live. Each is judged by those after it, which all still stand then.
     fn compact(&mut self)
-        ensures notes { shown (notes_of self.new) ≡ compacted (shown (notes_of self.old)) }
+        ensures notes { notes_shown self.new ≡ compacted (notes_shown self.old) }
         ensures slots { slots_of self.new ≡ slots_of self.old }
     {
+        // Kept: an index counted by hand, since a call of the shelf that takes a closure would need a `requires`.
         let mut i = 0;
         while i < self.notes().len() {
-            i = self.settle(i);
+            if live_at(self.notes(), i).is_some() {
+                i += 1;
+            } else {
+                self.remove(i);
+            }
         }
     }
 
     // Sees that a slot is free, by compaction where none is; false, and nothing altered, where all slots have live notes.
     fn make_room(&mut self) -> bool
-        ensures answer { result ≡ nat_lt (length (compacted (shown (notes_of self.old)))) (slots_of self.old) }
-        ensures notes { shown (notes_of self.new) ≡ (if result then readied (slots_of self.old) (shown (notes_of self.old)) else shown (notes_of self.old)) }
+        ensures answer { result ≡ nat_lt (length (compacted (notes_shown self.old))) (slots_of self.old) }
+        ensures notes { notes_shown self.new ≡ readied (slots_of self.old) (notes_shown self.old) }
         ensures slots { slots_of self.new ≡ slots_of self.old }
     {
-        if self.notes().len() < self.shelf.capacity() {
-            return true;
+        if self.notes().len() == self.shelf.capacity() {
+            self.compact();
         }
-        if all_live(self.notes()) {
-            return false;
-        }
-        self.compact();
-        true
+        self.notes().len() < self.shelf.capacity()
     }
 
     // Notes that a name is put with types. What lies in the slots past the notes is open.
     pub fn note_put(&mut self, name: &[u8], types: &TypeSet) -> Result<(), Refusal>
-        ensures answer { result ≡ of_name name.now (put_name (slots_of self.old) one_each (held_by (shown (notes_of self.old)))) }
-        ensures notes { shown (notes_of self.new) ≡ notes_after_put (slots_of self.old) (shown (notes_of self.old)) name.now (words_in types.now) }
+        ensures answer { result ≡ of_name name.now (put_name (slots_of self.old) one_each (held_by (notes_shown self.old))) }
+        ensures notes { notes_shown self.new ≡ notes_after_put (slots_of self.old) (notes_shown self.old) name.now (words_in types.now) }
         ensures slots { slots_of self.new ≡ slots_of self.old }
     {
         let named = Named::new(name, types)?;
@@ -113,8 +99,8 @@ impl<'a> Journal<'a> {
 
     // Notes that a name is taken. What lies in the slots past the notes is open.
     pub fn note_take(&mut self, name: &[u8]) -> Result<(), Refusal>
-        ensures answer { result ≡ of_name name.now (take_name (held_by (shown (notes_of self.old)))) }
-        ensures notes { shown (notes_of self.new) ≡ notes_after_take (slots_of self.old) (shown (notes_of self.old)) name.now }
+        ensures answer { result ≡ of_name name.now (take_name (held_by (notes_shown self.old))) }
+        ensures notes { notes_shown self.new ≡ notes_after_take (slots_of self.old) (notes_shown self.old) name.now }
         ensures slots { slots_of self.new ≡ slots_of self.old }
     {
         let named = Named::new(name, &TypeSet::empty())?;

@@ -1,33 +1,28 @@
-use Rattle.std.proofs.Common.{◌≡◌, ◌-◌, length, drop, sym, ap, ◌∙◌, arith}
-use Rattle.std.proofs.lemmas.Bool.Decides.{nat_tests}
+use Rattle.std.proofs.Common.{◌≡◌, ℕ, ◌<◌, ◌≤◌, true, false, length, get_or, sym, ap, ◌∙◌, arith, rules}
+use Rattle.std.proofs.iter.runs.Made.{chains}
+use Rattle.std.specs.Bool.{then_some}
+use Rattle.std.specs.Option.{option_map}
 use Rattle.names.specs.View.{labels}
 use Rattle.books.specs.Answers.{some}
-use Rattle.journal.specs.Notes.{mentions}
+use Rattle.journal.specs.Notes.{entry_at}
 use Rattle.journal.specs.View.{shown}
-use Rattle.journal.proofs.Places.{mentions_down, mentions_end, newest_here, never_noted}
+use Rattle.journal.proofs.Places.{names_it, mentions_none, newest_here, never_noted}
+use Rattle.journal.specs.declared.note.Note.{Note}
 use Rattle.journal.proofs.scan.put_of.Goals as goal
 
-pub loop-i-init : goal.loop-i-init
-loop-i-init c = mentions_end (labels c.args.name.now) c.args.notes.now (length c.args.notes.now) (omega arith)
-
-pub loop-i-preserved : goal.loop-i-preserved
-loop-i-preserved c =
-    mentions_down (labels c.args.name.now) (labels c.name.result) c.args.notes.now (c.loop-i.i - 1) c.loop-i.i c.index-notes-i.result (omega arith) c.index-notes-i.is c.name.ensures.labels
-    (sym c.if-is_same.ensures) (omega arith) c.loop-i.invariant
-
-pub returns-then-is_put : goal.returns-then-is_put
-returns-then-is_put c =
-    let h = newest_here (labels c.args.name.now) (labels c.name.result) c.args.notes.now (c.loop-i.i - 1) c.loop-i.i c.index-notes-i.result (omega arith) c.index-notes-i.is c.name.ensures.labels (sym c.if-is_same.ensures) (omega arith) c.loop-i.invariant in
-    let p = c.if-is_put.ensures in
-    grind (arith, nat_tests)
-
-pub returns-else-is_put : goal.returns-else-is_put
-returns-else-is_put c =
-    let h = newest_here (labels c.args.name.now) (labels c.name.result) c.args.notes.now (c.loop-i.i - 1) c.loop-i.i c.index-notes-i.result (omega arith) c.index-notes-i.is c.name.ensures.labels (sym c.if-is_same.ensures) (omega arith) c.loop-i.invariant in
-    let p = c.if-is_put.ensures in
-    grind (arith, nat_tests)
+pub returns-in_err-i : goal.returns-in_err-i
+returns-in_err-i c =
+    let n = labels c.args.name.now in
+    let ns = c.args.notes.now in
+    let none : (k : ℕ) (d : Note) → 0 ≤ k → k < length ns → names_it n (get_or ns k d) ≡ false = (λ k d b l. search (rules, chains)) in
+    ap (option_map (entry_at (shown ns))) c.from_residual.ensures ∙ sym (ap some (never_noted n ns (mentions_none n ns 0 none)))
 
 pub returns : goal.returns
 returns c =
-    let z : c.loop-i.i ≡ 0 = omega arith in
-    sym (ap some (never_noted (labels c.args.name.now) c.args.notes.now (ap (λ i. mentions (labels c.args.name.now) (drop i (shown c.args.notes.now))) (sym z) ∙ c.loop-i.invariant)))
+    let n = labels c.args.name.now in
+    let ns = c.args.notes.now in
+    let i = c.in_ok-i.i in
+    let x = c.index-notes-i.result in
+    let later : (k : ℕ) (d : Note) → i < k → k < length ns → names_it n (get_or ns k d) ≡ false = (λ k d b l. search (rules, chains)) in
+    let here : (d : Note) → names_it n (get_or ns i d) ≡ true = (λ d. search (rules, chains)) in
+    newest_here n ns i x c.then_some.result (search rules) c.index-notes-i.is (ap (names_it n) c.index-notes-i.is ∙ here x) (mentions_none n ns _ (λ k d l m. later k d (omega arith) m)) (c.then_some.ensures ∙ ap (λ b. then_some b i) c.is_put.ensures)

@@ -1,7 +1,10 @@
-use Rattle.std.proofs.Common.{arith, rules}
-use Rattle.std.proofs.lemmas.Option.{slice_get-get_or}
-use Rattle.std.proofs.lemmas.Bool.Decides.{nat_tests}
+use Rattle.std.proofs.Common.{sym, ◌∙◌, rules}
+use Rattle.shelf.proofs.Live.{turned, slots_taken}
 use Rattle.shelf.proofs.Shelf.take.Goals as goal
 
-pub returns : goal.returns
-returns g c = record { answer = search (rules, slice_get-get_or); slots = search rules; count = search rules }
+pub returns-clause-slots : goal.returns-clause-slots
+returns-clause-slots g c =
+    let s = c.args.self.now.slots.now in
+    let n = c.args.self.now.count in
+    let i = c.args.i in
+    turned s _ n i (search rules) (search rules) c.rotate_left.ensures.len c.rotate_left.ensures.by_index ∙ sym (slots_taken s n i (search rules))

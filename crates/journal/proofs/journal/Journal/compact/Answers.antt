@@ -1,25 +1,24 @@
-use Rattle.std.proofs.Common.{◌<◌, ◌≤◌, length, sym, ap, ◌∙◌, arith}
+use Rattle.std.proofs.Common.{◌<◌, length, sym, ap, ◌∙◌, arith}
+use Rattle.std.proofs.lemmas.List.Edits.{length-remove}
 use Rattle.journal.specs.State.{notes_of}
-use Rattle.journal.proofs.Moves.{Settled, settles, settled_all}
+use Rattle.journal.proofs.Moves.{stays, goes, settled}
+use Rattle.journal.proofs.Places.{live_now}
 use Rattle.journal.proofs.journal.Journal.compact.Goals as goal
 
-step : (c : goal.After-settle-i) → Settled (notes_of c.loop-i.self) (notes_of c.settle-i.new.self) c.loop-i.i c.settle-i.result
-step c =
-    let l = ap length c.notes.ensures in
-    let h : c.loop-i.i < length (notes_of c.loop-i.self) = omega arith in
-    settles _ _ c.loop-i.i c.settle-i.result h c.settle-i.ensures.next c.settle-i.ensures.notes
-
-pub loop-i-smaller : goal.loop-i-smaller
-loop-i-smaller c = (step c).fewer
+pub loop-i-preserved-then-is_some : goal.loop-i-preserved-then-is_some
+loop-i-preserved-then-is_some c =
+    let ns = notes_of c.loop-i.self in
+    let k = ap length c.notes.ensures in
+    let h : c.loop-i.i < length ns = omega arith in
+    let l = live_now _ c.live_at.result c.notes-in-loop-i.result.now ns c.loop-i.i c.live_at.ensures c.notes-in-loop-i.ensures ∙ sym c.if-is_some.ensures in
+    (stays ns c.loop-i.i h l ∙ c.loop-i.invariant.0, omega arith, c.loop-i.invariant.2)
 
 pub loop-i-preserved : goal.loop-i-preserved
-loop-i-preserved c = ((step c).same ∙ c.loop-i.invariant.0, (step c).within, c.settle-i.ensures.slots ∙ c.loop-i.invariant.2)
-
-pub returns : goal.returns
-returns c =
-    let l = ap length c.notes.ensures in
-    let h : length (notes_of c.loop-i.self) ≤ c.loop-i.i = omega arith in
-    record {
-      notes = sym (settled_all (notes_of c.loop-i.self) c.loop-i.i h) ∙ c.loop-i.invariant.0;
-      slots = c.loop-i.invariant.2;
-    }
+loop-i-preserved c =
+    let ns = notes_of c.loop-i.self in
+    let k = ap length c.notes.ensures in
+    let h : c.loop-i.i < length ns = omega arith in
+    let l = live_now _ c.live_at.result c.notes-in-loop-i.result.now ns c.loop-i.i c.live_at.ensures c.notes-in-loop-i.ensures ∙ sym c.if-is_some.ensures in
+    let m = ap length c.remove.ensures.notes in
+    let r = length-remove ns c.loop-i.i h in
+    (ap (λ ys. settled ys c.loop-i.i) c.remove.ensures.notes ∙ goes ns c.loop-i.i h l ∙ c.loop-i.invariant.0, omega arith, c.remove.ensures.slots ∙ c.loop-i.invariant.2)

@@ -1,5 +1,5 @@
-use Rattle.std.proofs.Common.{[], ◌∷◌, ◌++◌, length, sym, ap, ◌∙◌, ap₂, arith}
-use Rattle.std.proofs.lemmas.List.{map_push, length-map}
+use Rattle.std.proofs.Common.{[], ◌∷◌, ◌++◌, sym, ap, ◌∙◌, ap₂}
+use Rattle.std.proofs.lemmas.List.{map_push}
 use Rattle.names.specs.TypeView.{words}
 use Rattle.names.specs.View.{labels}
 use Rattle.names.specs.Wire.{is_name}
@@ -9,22 +9,14 @@ use Rattle.journal.specs.Rising.{notes_names}
 use Rattle.journal.specs.State.{notes_of, slots_of}
 use Rattle.journal.specs.View.{note_contents, shown}
 use Rattle.journal.specs.declared.note.Note.TheVariants.{Put}
-use Rattle.journal.proofs.Room.{read_some, sought, put_full, put_done, readied_room}
+use Rattle.journal.proofs.Room.{notes_fit, read_some, sought, put_full, put_done}
 use Rattle.journal.proofs.journal.Journal.note_put.Goals as goal
 
 pub returns-then-not-make_room : goal.returns-then-not-make_room
 returns-then-not-make_room c =
     let a = sought c.args.name.now (words c.args.types.now) (entry_in c.in_ok-named.named) (labels c.name.result) c.notes.result.now (notes_of c.args.self.now) c.put_of.result c.in_ok-named.ensures.entry c.name.ensures.labels c.notes.ensures c.put_of.ensures in
-    let p = put_full (slots_of c.args.self.now) (shown (notes_of c.args.self.now)) c.args.name.now (words c.args.types.now) (notes_names (notes_of c.args.self.now)) a.name (a.held ∙ sym c.if-is_some.ensures) c.if-not-make_room.ensures.answer in
+    let p = put_full (slots_of c.args.self.now) (shown (notes_of c.args.self.now)) c.args.name.now (words c.args.types.now) (notes_names (notes_of c.args.self.now)) a.name (a.held ∙ sym c.if-is_some.ensures) (notes_fit c.args.self.now) c.if-not-make_room.ensures.answer in
     record { answer = p.0; notes = c.if-not-make_room.ensures.notes ∙ p.1; slots = c.if-not-make_room.ensures.slots }
-
-pub add-requires : goal.add-requires
-add-requires c =
-    let r = readied_room (slots_of c.args.self.now) (shown (notes_of c.args.self.now)) c.if-not-make_room.ensures.answer in
-    let l = ap length c.if-not-make_room.ensures.notes in
-    let k = length-map (notes_of c.make_room.new.self) note_contents in
-    let s = c.if-not-make_room.ensures.slots in
-    omega arith
 
 pub returns : goal.returns
 returns c =
