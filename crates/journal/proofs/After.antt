@@ -3,7 +3,7 @@ use Rattle.std.proofs.Common.{◌≡◌, ℕ, Bool, true, false, cond, not, ◌&
 use Rattle.std.proofs.lemmas.List.{take_at, length-map}
 use Rattle.std.proofs.lemmas.Bool.{false≢true, cases_Bool, and_parts}
 use Rattle.std.proofs.lemmas.Bool.Decides.{nat_tests}
-use Rattle.names.proofs.Ordered.{same_name_true}
+use Rattle.names.specs.Orders.{names_decide}
 use Rattle.names.proofs.Undo.{wire_labels, labels_wire}
 use Rattle.names.specs.Canonical.{same_name}
 use Rattle.names.specs.Types.{Words, no_types}
@@ -40,9 +40,9 @@ mentions_without n m (x ∷ xs) =
     let s = cases_Bool (same_name n m) in
     let t = cases_Bool (same_name m (name_noted x)) in
     let u = cases_Bool (same_name n (name_noted x)) in
-    let p = same_name_true n m in
+    let p = (names_decide n m).0 in
     let q : n ≡ m → same_name n (name_noted x) ≡ same_name m (name_noted x) = λ z. ap (λ y. same_name y (name_noted x)) z in
-    let p2 = same_name_true m (name_noted x) in
+    let p2 = (names_decide m (name_noted x)).0 in
     let q2 : m ≡ name_noted x → same_name n m ≡ same_name n (name_noted x) = λ z. ap (same_name n) z in
     grind (arith, nat_tests)
 
@@ -56,9 +56,9 @@ newest_without n m (x ∷ xs) =
     let u = cases_Bool (same_name n (name_noted x)) in
     let v = cases_Bool (mentions n xs) in
     let z = newest_none n xs in
-    let p = same_name_true n m in
+    let p = (names_decide n m).0 in
     let q : n ≡ m → same_name n (name_noted x) ≡ same_name m (name_noted x) = λ z. ap (λ y. same_name y (name_noted x)) z in
-    let p2 = same_name_true m (name_noted x) in
+    let p2 = (names_decide m (name_noted x)).0 in
     let q2 : m ≡ name_noted x → same_name n m ≡ same_name n (name_noted x) = λ z. ap (same_name n) z in
     grind (arith, nat_tests)
 

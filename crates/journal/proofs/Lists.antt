@@ -4,7 +4,8 @@ use Rattle.std.proofs.lemmas.Bool.{false≢true, cases_Bool}
 use Rattle.std.proofs.lemmas.Bool.Decides.{nat_tests}
 use Rattle.std.proofs.lemmas.List.{append-nil}
 use Rattle.std.specs.Ordering.{is_lt}
-use Rattle.names.proofs.Ordered.{same_name_true, same_name_refl, families, below_join}
+use Rattle.names.specs.Orders.{names_decide}
+use Rattle.names.proofs.Ordered.{families, below_join}
 use Rattle.names.specs.Canonical.{same_name, below}
 use Rattle.names.specs.Wire.{Labels}
 use Rattle.books.proofs.Keeps.{none_before}
@@ -40,18 +41,18 @@ same_rest n d ds es h k f =
     let u = none_before n d.0 ds h in
     let v = none_before n d.0 es k in
     let i = less_irreflexive d.0 in
-    let e = same_name_true n d.0 in
+    let e = (names_decide n d.0).0 in
     let q : n ≡ d.0 → less d.0 n ≡ false = λ z. ap (less d.0) z ∙ i in
     grind (arith, nat_tests)
 
 -- two rising lists are the same where they have the same of each name
 pub same_held : (a b : Held) → rises a ≡ true → rises b ≡ true → ((n : Labels) → entry_of n a ≡ entry_of n b) → a ≡ b
 same_held [] [] h k f = refl
-same_held [] (e ∷ es) h k f = absurd (never e (f e.0 ∙ rw (same_name_refl e.0)))
-same_held (d ∷ ds) [] h k f = absurd (never d (sym (f d.0) ∙ rw (same_name_refl d.0)))
+same_held [] (e ∷ es) h k f = absurd (never e (f e.0 ∙ rw (((names_decide e.0 e.0).1 refl))))
+same_held (d ∷ ds) [] h k f = absurd (never d (sym (f d.0) ∙ rw (((names_decide d.0 d.0).1 refl))))
 same_held (d ∷ ds) (e ∷ es) h k f =
-    let p : Some d ≡ entry_of d.0 (e ∷ es) = sym (rw (same_name_refl d.0)) ∙ f d.0 in
-    let q : entry_of e.0 (d ∷ ds) ≡ Some e = f e.0 ∙ rw (same_name_refl e.0) in
+    let p : Some d ≡ entry_of d.0 (e ∷ es) = sym (rw (((names_decide d.0 d.0).1 refl))) ∙ f d.0 in
+    let q : entry_of e.0 (d ∷ ds) ≡ Some e = f e.0 ∙ rw (((names_decide e.0 e.0).1 refl)) in
     let r = same_first d e ds es h k p q in
     let k2 : rises_from d.0 es ≡ true = ap (λ y. rises_from y.0 es) r ∙ k in
     let g : (n : Labels) → entry_of n ds ≡ entry_of n es = λ n. same_rest n d ds es h k2 (f n ∙ ap (λ y. entry_of n (y ∷ es)) (sym r)) in

@@ -2,7 +2,7 @@
 use Rattle.std.proofs.Common.{◌≡◌, true, false, cond, ◌&&◌, [], ◌∷◌, Some, None, Option, sym, refl, ap, ◌∙◌, arith}
 use Rattle.std.proofs.lemmas.Bool.{cases_Bool, and_parts}
 use Rattle.std.proofs.lemmas.Bool.Decides.{nat_tests}
-use Rattle.names.proofs.Ordered.{same_name_true}
+use Rattle.names.specs.Orders.{names_decide}
 use Rattle.names.specs.Canonical.{same_name}
 use Rattle.names.specs.Wire.{Labels, is_labels}
 use Rattle.books.proofs.Keeps.{entry_with, entry_without}
@@ -27,7 +27,7 @@ newest_none n (x ∷ xs) h =
 
 -- the same name is mentioned alike
 pub mentions_same : (n m : Labels) (xs : Notes) → same_name n m ≡ true → mentions n xs ≡ mentions m xs
-mentions_same n m xs h = ap (λ y. mentions y xs) (same_name_true n m h)
+mentions_same n m xs h = ap (λ y. mentions y xs) (((names_decide n m).0) h)
 
 -- one note
 entry_after_lem : (n : Labels) (x : Noted) (hs : Held) → rises hs ≡ true → entry_of n (held_after x hs) ≡ cond (same_name n (name_noted x)) (cond (is_put x) (Some (entry_noted x)) None) (entry_of n hs)

@@ -2,7 +2,7 @@
 use Rattle.std.specs.Prelude.{◌≡◌, Bool, true, ◌&&◌, List, [], ◌∷◌, None, refl}
 use Rattle.std.proofs.Common.{◌∙◌}
 use Rattle.std.proofs.lemmas.Bool.{cond_both, cond-true, and_parts, and_from}
-use Rattle.names.proofs.Ordered.{same_name_refl}
+use Rattle.names.specs.Orders.{names_decide}
 use Rattle.names.proofs.Undo.{are_labels_lem}
 use Rattle.names.specs.Canonical.{same_name}
 use Rattle.names.specs.Wire.{Labels, is_labels}
@@ -30,7 +30,7 @@ notes_names (n ∷ ns) = and_from _ _ (note_name n) (notes_names ns)
 
 -- a name that was taken out is not held
 pub none_without : (n : Labels) (hs : Held) → rises hs ≡ true → entry_of n (without_name n hs) ≡ None
-none_without n hs h = entry_without n n hs h ∙ cond-true (same_name n n) None (entry_of n hs) (same_name_refl n)
+none_without n hs h = entry_without n n hs h ∙ cond-true (same_name n n) None (entry_of n hs) (((names_decide n n).1 refl))
 
 pub rises_after : (x : Noted) (hs : Held) → is_labels (name_noted x) ≡ true → rises hs ≡ true → rises (held_after x hs) ≡ true
 rises_after x hs i h =

@@ -19,7 +19,7 @@ const ROOT: [u8; 1] = [0];
 fn is_mentioned(notes: &[Note], name: &Name<'_>) -> bool
     ensures { result ≡ mentions (labels_in name.now) (shown notes.now) }
 {
-    notes.iter().any(|note| name.is_same(&note.name()))
+    notes.iter().any(|note| *name == note.name())
 }
 
 // The name and the types of the note at i, if it is live.
@@ -36,7 +36,7 @@ pub(crate) fn live_at(notes: &[Note], i: usize) -> Option<&Named>
 pub(crate) fn put_of(notes: &[Note], name: &Name<'_>) -> Option<usize>
     ensures { option_map (entry_at (shown notes.now)) result ≡ some (entry_of (labels_in name.now) (held_by (shown notes.now))) }
 {
-    let i = notes.iter().rposition(|note| name.is_same(&note.name()))?;
+    let i = notes.iter().rposition(|note| *name == note.name())?;
     notes[i].is_put().then_some(i)
 }
 
@@ -49,10 +49,10 @@ pub(crate) fn least_after(notes: &[Note], after: &Name<'_>) -> Option<usize>
         let name = note.name();
         // Kept: a `match`, since a proof learns nothing of what the closure answers that `is_none_or` calls.
         let is_nearer = match best {
-            Some((_, least)) => name.compare(&least).is_lt(),
+            Some((_, least)) => name < least,
             None => true,
         };
-        if is_nearer && after.compare(&name).is_lt() && live_at(notes, i).is_some() {
+        if is_nearer && *after < name && live_at(notes, i).is_some() {
             best = Some((i, name));
         }
     }

@@ -3,7 +3,7 @@ use Rattle.std.proofs.Common.{◌≡◌, ℕ, ◌-◌, ◌<◌, ◌≤◌, true,
 use native.Mathlib.Nat.{sub-zero}
 use Rattle.std.proofs.lemmas.List.{length-append, length-drop, take_at, append_assoc}
 use Rattle.std.specs.Option.{option_map}
-use Rattle.names.proofs.Ordered.{same_name_refl}
+use Rattle.names.specs.Orders.{names_decide}
 use Rattle.names.proofs.Reader.{some_same}
 use Rattle.names.proofs.Undo.{name_wire, labels_wire, labels_parts}
 use Rattle.names.specs.Types.{Words}
@@ -29,7 +29,7 @@ either_entry (Some e) = inr (e, refl)
 -- the first slot
 pub from_first : (hs : Held) (r : Option (Option Entry)) → r ≡ some (first_entry hs) → from_slot r hs ≡ hs
 from_first [] r e = ap (λ u. from_slot u []) e
-from_first (h ∷ hs) r e = ap (λ u. from_slot u (h ∷ hs)) e ∙ rw (same_name_refl h.0)
+from_first (h ∷ hs) r e = ap (λ u. from_slot u (h ∷ hs)) e ∙ rw (((names_decide h.0 h.0).1 refl))
 
 -- where a slot stands in the list
 pub record Here (x : Option Entry) (rs hs : Held) : Type 0 where

@@ -47,7 +47,6 @@ pub escaped_text : (t u : Octets) (x : ℕ) → x < 256 → false ≡ is_shown x
 escaped_text t u x f h w =
     w ∙ ap (λ y. t ++ 92 ∷ y) (digits_three x f) ∙ ap (λ b. t ++ cond b (x ∷ []) (92 ∷ (48 + x / 100) ∷ (48 + x / 10 % 10) ∷ (48 + x % 10) ∷ [])) h
 
-
 -- a name with labels
 pub some_labels : (n : Labels) → (length n ≡ 0 → ⊥) → labels_text n ≡ name_text n
 some_labels [] h = absurd (h refl)

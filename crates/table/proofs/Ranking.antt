@@ -3,7 +3,7 @@ use Rattle.std.proofs.Common.{◌≡◌, ℕ, ◌≤◌, true, cond, ◌⊎◌, 
 use Rattle.std.proofs.lemmas.Bool.{cases_Bool}
 use Rattle.std.proofs.lemmas.Bool.Decides.{nat_tests}
 use Rattle.std.specs.List.{slice_get, insert, remove}
-use Rattle.names.proofs.Ordered.{same_name_true, same_name_refl}
+use Rattle.names.specs.Orders.{names_decide}
 use Rattle.names.specs.Canonical.{same_name}
 use Rattle.names.specs.Wire.{Labels}
 use Rattle.books.proofs.Keeps.{less_other, none_before}
@@ -35,7 +35,7 @@ rank_entry n (e ∷ es) h =
 either : (n : Labels) (e f : Entry) (es : Held) → rises_from e.0 es ≡ true → entry_of n (e ∷ es) ≡ Some f → (n ≡ e.0) ⊎ ((less e.0 n ≡ true) × (entry_of n es ≡ Some f))
 either n e f es h k =
     ⊎_elim
-    (λ s. inl (same_name_true n e.0 s))
+    (λ s. inl (((names_decide n e.0).0) s))
     (λ s.
     let t : entry_of n es ≡ Some f = sym (rw s) ∙ k in
     inr (⊎_elim (λ l. l) (λ l. absurd (let b = none_before n e.0 es h l in let z : ◌≡◌ {A = ℕ} 0 1 = cc in omega arith)) (cases_Bool (less e.0 n)), t))
@@ -60,7 +60,7 @@ rank_without n (e ∷ es) f h k =
     ⊎_elim
     (λ s.
     let i = less_irreflexive e.0 in
-    let j = same_name_refl e.0 in
+    let j = (names_decide e.0 e.0).1 refl in
     rw s (rw (i, j) refl))
     (λ p.
     let r = rank_without n es f (rises_tail e.0 es h) p.1 in

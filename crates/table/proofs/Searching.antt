@@ -5,7 +5,8 @@ use Rattle.std.proofs.lemmas.Option.{slice_get_past}
 use Rattle.std.specs.List.{AllWithin, slice_get}
 use Rattle.std.specs.List.Sorted.{IsBinarySearchResult, IsSearchInRange, IsPartitionedBy, IsPartitionPoint}
 use Rattle.std.specs.Ordering.{is_lt, is_le, ordering_index}
-use Rattle.names.proofs.Ordered.{canonical_total, same_name_true, same_name_refl}
+use Rattle.names.specs.Orders.{names_decide}
+use Rattle.names.proofs.Ordered.{canonical_total}
 use Rattle.names.specs.Canonical.{canonical, same_name}
 use Rattle.names.specs.Wire.{Labels}
 use Rattle.books.proofs.Rising.{less_irreflexive, less_transitive, less_apart, rises_tail}
@@ -56,7 +57,7 @@ held_at : (n : Labels) (es : List Named) (d : Named) (i : ℕ) → rises (entrie
 held_at n [] d i h l q = absurd (omega arith)
 held_at n (e ∷ es) d zero h l q =
     let s = canonical_total.same (entry_in e).0 n q in
-    let t : same_name n (entry_in e).0 ≡ true = ap (same_name n) s ∙ same_name_refl n in
+    let t : same_name n (entry_in e).0 ≡ true = ap (same_name n) s ∙ ((names_decide n n).1 refl) in
     record { held = rw t refl; place = rw (ap is_lt q) refl }
 held_at n (e ∷ es) d (suc i) h l q =
     let r = held_at n es d i (rises_tail (entry_in e).0 (entries_in es) h) (omega arith) q in
@@ -71,7 +72,7 @@ record FreeAt (n : Labels) (es : List Named) (i : ℕ) : Type 0 where
   place : rank n (entries_in es) ≡ i
 
 other : (n m : Labels) (o : Ordering) → canonical m n ≡ o → (o ≡ Equal → ⊥) → same_name n m ≡ false
-other n m o e k = let c = cases_Bool (same_name n m) in let s = same_name_true n m in let r : n ≡ m → canonical m n ≡ Equal = λ z. ap (canonical m) z ∙ canonical_total.itself m in grind arith
+other n m o e k = let c = cases_Bool (same_name n m) in let s = (names_decide n m).0 in let r : n ≡ m → canonical m n ≡ Equal = λ z. ap (canonical m) z ∙ canonical_total.itself m in grind arith
 
 free_at : (n : Labels) (es : List Named) (i : ℕ) → i ≤ length es → AllWithin (λ e. canonical (entry_in e).0 n ≡ Less) es 0 i → AllWithin (λ e. canonical (entry_in e).0 n ≡ Greater) es i (length es) → FreeAt n es i
 free_at n [] i l b a = record { none = refl; place = omega arith }

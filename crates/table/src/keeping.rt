@@ -37,7 +37,7 @@ impl<'a> Table<'a> {
         ensures { result ≡ standing (labels_in name.now) (held_by self.now) }
     {
         self.entries()
-            .binary_search_by(|entry| entry.name().compare(name))
+            .binary_search_by(|entry| entry.name().cmp(name))
     }
 
     // One entry more, in its place; the slots behind it move up by one.

@@ -47,9 +47,7 @@ impl<'a> Book for Table<'a> {
 
     fn next(&self, name: &[u8]) -> Result<Option<usize>, Refusal> {
         let name = Name::read(name)?;
-        let after = self
-            .entries()
-            .partition_point(|entry| entry.name().compare(&name).is_le());
+        let after = self.entries().partition_point(|entry| entry.name() <= name);
         Ok(self.slot(after))
     }
 

@@ -6,7 +6,7 @@ use Rattle.journal.specs.View.{shown}
 use Rattle.journal.proofs.Nearest.{nearer, is_taken, not_less, not_live, back}
 use Rattle.journal.proofs.Places.{live_now}
 use Rattle.journal.proofs.scan.least_after.Goals.{in-Some-best, in-None-best}
-use Rattle.journal.proofs.scan.least_after.Goals.{else-is_nearer-via-then-is_nearer+then-is_lt+else-is_some, else-is_nearer-via-then-is_nearer+else-is_lt, else-is_nearer-via-else-is_nearer}
+use Rattle.journal.proofs.scan.least_after.Goals.{else-is_nearer-via-then-is_nearer+then-lt+else-is_some, else-is_nearer-via-then-is_nearer+else-lt, else-is_nearer-via-else-is_nearer}
 use Rattle.journal.proofs.scan.least_after.Goals as goal
 
 pub loop-i-preserved-then-is_some : goal.loop-i-preserved-then-is_some
@@ -36,10 +36,10 @@ loop-i-preserved c =
     let near : c.match-best.is_nearer ≡ nearer (labels m) c.loop-i.best = elim c.match-best.branch [ in-Some-best w ↦ search rules | in-None-best w ↦ search rules ] in
     let t : is_taken n (labels m) c.loop-i.best (entry_at (shown ns) (length left)) ≡ false =
     elim c.else-is_nearer.branch [
-      | else-is_nearer-via-then-is_nearer+then-is_lt+else-is_some w ↦
+      | else-is_nearer-via-then-is_nearer+then-lt+else-is_some w ↦
           let live : is_some (entry_at (shown ns) (length left)) ≡ false = ap (λ k. is_some (entry_at (shown ns) k)) (sym i) ∙ live_now _ w.live_at.result ns ns c.in-Some.i w.live_at.ensures refl ∙ sym w.if-is_some.ensures in
           not_live n (labels m) c.loop-i.best (entry_at (shown ns) (length left)) live
-      | else-is_nearer-via-then-is_nearer+else-is_lt w ↦
+      | else-is_nearer-via-then-is_nearer+else-lt w ↦
           let after : less n (labels m) ≡ false = search rules in
           not_less n (labels m) c.loop-i.best (entry_at (shown ns) (length left)) after
       | else-is_nearer-via-else-is_nearer w ↦ ap (λ k. k && (less n (labels m) && is_some (entry_at (shown ns) (length left)))) (sym near ∙ w.if-is_nearer.false)
