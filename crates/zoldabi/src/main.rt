@@ -2,9 +2,6 @@
 // `LINE => ANSWER`.
 #![tactic(auto)]
 
-mod kept;
-
-use crate::kept::Kept;
 use anyhow::Context;
 use names::name::Name;
 use names::refusal::Refusal;
@@ -13,6 +10,7 @@ use script::line::{Line, read_line};
 use script::name::name_text;
 use script::record::{entry_line, record_line};
 use std::alloc::{AllocError, Global};
+use std::collections::BTreeMap;
 use std::process::ExitCode;
 use std::{env, fs, io};
 
@@ -48,7 +46,7 @@ fn allowed_name<'a>(octets: &'a [u8], types: &TypeSet) -> Result<Name<'a>, Refus
 // The label count and the lower-case form of a name, which is kept, or why it is refused.
 fn answer_name<'a>(
     heap: Global,
-    kept: &mut Kept<'a>,
+    kept: &mut BTreeMap<Name<'a>, TypeSet>,
     octets: &'a [u8],
     types: TypeSet,
 ) -> Result<String, AllocError> {
@@ -61,16 +59,15 @@ fn answer_name<'a>(
     };
     let count = name.label_count();
     let text = name_text(heap, &name)?;
-    kept.put(name, types)?;
+    kept.insert(name, types)?;
     format!(in heap; "{count} {text}")
 }
 
 // The number of the names so far, and a line for each in canonical order.
-fn answer_list(heap: Global, kept: &Kept<'_>) -> Result<String, AllocError> {
-    let entries = kept.entries();
-    let count = entries.len();
+fn answer_list(heap: Global, kept: &BTreeMap<Name<'_>, TypeSet>) -> Result<String, AllocError> {
+    let count = kept.len();
     let mut answer = format!(in heap; "{count}")?;
-    for (name, types) in entries {
+    for (name, types) in kept {
         let line = entry_line(heap, name, types)?;
         write!(answer, "\n{line}")?;
     }
@@ -81,7 +78,7 @@ fn run(rt: &HostRuntime) -> anyhow::Result<()> {
     let heap = rt.alloc();
     let script = script_text(rt)?;
     let lines = read_lines(heap, &script)?;
-    let mut kept = Kept::new(heap);
+    let mut kept = BTreeMap::new(heap);
     for (text, line) in &lines {
         let answer = match line {
             Line::Nothing => continue,
