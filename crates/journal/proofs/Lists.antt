@@ -1,5 +1,5 @@
 -- Rising lists: when two are the same, and what one entry more or less does.
-use Rattle.std.proofs.Common.{◌≡◌, ℕ, ◌+◌, true, false, cond, [], ◌∷◌, length, is_some, Some, None, sym, refl, ap, ◌∙◌, ap₂, arith}
+use Rattle.std.proofs.Common.{◌≡◌, ◌+◌, true, false, cond, [], ◌∷◌, length, is_some, Some, None, sym, refl, ap, ◌∙◌, ap₂, arith}
 use Rattle.std.proofs.lemmas.Bool.{false≢true, cases_Bool}
 use Rattle.std.proofs.lemmas.Bool.Decides.{nat_tests}
 use Rattle.std.proofs.lemmas.List.{append-nil}
@@ -15,7 +15,7 @@ use Rattle.journal.specs.Notes.{}
 use Rattle.books.specs.Held.{one_each}
 
 never : (e : Entry) → None ≡ Some e → ⊥
-never e h = let z : ◌≡◌ {A = ℕ} 0 1 = cc in omega arith
+never e h = cc
 
 -- two rising lists that begin with other names differ at one of these
 same_first : (d e : Entry) (ds es : Held) → rises_from d.0 ds ≡ true → rises_from e.0 es ≡ true

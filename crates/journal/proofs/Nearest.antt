@@ -46,8 +46,8 @@ after_here n m ns i x h e k =
 
 nearer_by : (xs : Notes) (m : Labels) (best : Option (ℕ × Name)) (o : Option Entry) → option_map (found_as xs) best ≡ option_map entry_as o → nearer m best ≡ before m o
 nearer_by xs m None None h = refl
-nearer_by xs m None (Some e) h = absurd (let z : ◌≡◌ {A = ℕ} 0 1 = cc in omega arith)
-nearer_by xs m (Some p) None h = absurd (let z : ◌≡◌ {A = ℕ} 0 1 = cc in omega arith)
+nearer_by xs m None (Some e) h = cc
+nearer_by xs m (Some p) None h = cc
 nearer_by xs m (Some p) (Some e) h = let q : labels p.1 ≡ e.0 = let w : found_as xs p ≡ entry_as e = cc in ap (λ y. y.1) w in ap (less m) q
 
 -- a note is taken for it: its name is greater, comes before the other, and it is live

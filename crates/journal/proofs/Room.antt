@@ -35,12 +35,12 @@ notes_fit j =
 -- a name was read: the octets are a name
 pub read_some : {X : Type 0} (b : Bool) (x y : X) → Some x ≡ cond b (Some y) None → (b ≡ true) × (x ≡ y)
 read_some true x y h = (refl, some_same x y h)
-read_some false x y h = absurd (let z : ◌≡◌ {A = ℕ} 0 1 = cc in omega arith)
+read_some false x y h = cc
 
 held_or_not : (f : ℕ → Option Entry) (r : Option ℕ) (o : Option Entry) → option_map f r ≡ some o → is_some r ≡ is_some o
 held_or_not f None None p = refl
-held_or_not f None (Some e) p = absurd (let z : ◌≡◌ {A = ℕ} 0 1 = cc in omega arith)
-held_or_not f (Some i) None p = absurd (let z : ◌≡◌ {A = ℕ} 0 1 = cc in omega arith)
+held_or_not f None (Some e) p = cc
+held_or_not f (Some i) None p = cc
 held_or_not f (Some i) (Some e) p = refl
 
 -- octets were read as a name, and its put was looked for
@@ -134,7 +134,7 @@ removed_without n (x ∷ xs) (suc i) y rest a e s =
 
 -- an index that was found has a note of the name
 entry_named : (n : Labels) (hs : Held) (e : Entry) → entry_of n hs ≡ Some e → same_name n e.0 ≡ true
-entry_named n [] e h = absurd (let z : ◌≡◌ {A = ℕ} 0 1 = cc in omega arith)
+entry_named n [] e h = cc
 entry_named n (f ∷ fs) e h =
     let s = cases_Bool (same_name n f.0) in
     let r = entry_named n fs e in
@@ -148,9 +148,9 @@ record Found (n : Labels) (ds : Notes) : Type 0 where
   pub same : same_name n (name_noted note) ≡ true
 
 found_by : (n : Labels) (ds : Notes) (o : Option Entry) → ((e : Entry) → o ≡ Some e → same_name n e.0 ≡ true) → Some (live_entry ds) ≡ some o → Found n ds
-found_by n [] None f p = absurd (let z : ◌≡◌ {A = ℕ} 0 1 = cc in omega arith)
-found_by n [] (Some e) f p = absurd (let z : ◌≡◌ {A = ℕ} 0 1 = cc in omega arith)
-found_by n (y ∷ ys) None f p = absurd (let z : ◌≡◌ {A = ℕ} 0 1 = cc in omega arith)
+found_by n [] None f p = cc
+found_by n [] (Some e) f p = cc
+found_by n (y ∷ ys) None f p = cc
 found_by n (y ∷ ys) (Some e) f p =
     let c = cases_Bool (is_live y ys) in
     let q : entry_noted y ≡ e = grind (arith, nat_tests) in

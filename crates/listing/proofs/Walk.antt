@@ -1,30 +1,16 @@
 -- The steps of a listing.
-use Rattle.std.proofs.Common.{◌≡◌, ℕ, ◌-◌, ◌<◌, ◌≤◌, true, cond, ◌⊎◌, [], ◌∷◌, ◌++◌, length, take, drop, Some, None, Option, sym, refl, ap, ◌∙◌, ap₂, inl, inr, arith}
-use native.Mathlib.Nat.{sub-zero}
-use Rattle.std.proofs.lemmas.List.{length-append, length-drop, take_at, append_assoc}
+use Rattle.std.proofs.Common.{◌≡◌, ℕ, ◌<◌, true, cond, [], ◌∷◌, ◌++◌, length, Some, None, Option, sym, refl, ap, ◌∙◌, ap₂, arith}
+use Rattle.std.proofs.lemmas.List.{append_assoc}
 use Rattle.std.specs.Option.{option_map}
 use Rattle.names.specs.Orders.{names_decide}
 use Rattle.names.proofs.Reader.{some_same}
 use Rattle.names.proofs.Undo.{name_wire, labels_wire, labels_parts}
 use Rattle.names.specs.Types.{Words}
-use Rattle.names.specs.Wire.{Octets, is_name, is_labels, labels_of, wire, written}
+use Rattle.names.specs.Wire.{Octets, is_name, is_labels, labels_of, wire}
 use Rattle.books.proofs.Rising.{part_name, after_entry, from_entry}
-use Rattle.books.specs.Answers.{some, name_written}
+use Rattle.books.specs.Answers.{some}
 use Rattle.books.specs.Held.{Entry, Held, rises, entry_after, first_entry, from_name}
 use Rattle.listing.specs.Rows.{from_slot, shown}
-
--- what was written to the front of a buffer of 255 octets is no longer than that, and stands there
-pub written_short : (s before after : Octets) → length before ≡ 255 → length after ≡ 255 → after ≡ written s before → length s ≤ 255
-written_short s before after b a e =
-    let l = ap length e ∙ length-append s (drop (length s) before) in
-    omega (arith, length-drop (length s) before)
-
-pub written_front : (s before after : Octets) (n : ℕ) → n ≡ length s → after ≡ written s before → take n after ≡ s
-written_front s before after n h e = ap (take n) e ∙ take_at s (drop (length s) before) n (sym h)
-
-either_entry : (o : Option Entry) → (o ≡ None) ⊎ ((e : Entry) × (o ≡ Some e))
-either_entry None = inl refl
-either_entry (Some e) = inr (e, refl)
 
 -- the first slot
 pub from_first : (hs : Held) (r : Option (Option Entry)) → r ≡ some (first_entry hs) → from_slot r hs ≡ hs
@@ -40,7 +26,7 @@ pub record Here (x : Option Entry) (rs hs : Held) : Type 0 where
   pub all : hs ≡ rs ++ (entry ∷ later)
 
 here_by : (x : Option Entry) (rs hs fs : Held) → from_slot (Some x) hs ≡ fs → rs ++ fs ≡ hs → Some x ≡ some (first_entry fs) → Here x rs hs
-here_by x rs hs [] f i j = absurd (let z : ◌≡◌ {A = ℕ} 0 1 = cc in omega arith)
+here_by x rs hs [] f i j = cc
 here_by x rs hs (e ∷ es) f i j = record { entry = e; later = es; is = cc; from = f; all = sym i }
 
 pub here : (x : Option Entry) (rs hs : Held) → rs ++ from_slot (Some x) hs ≡ hs → Some x ≡ some (first_entry (from_slot (Some x) hs)) → Here x rs hs
@@ -79,22 +65,6 @@ turn x rs hs s ws r p h q e =
       first = f ∙ ap (λ z. some (first_entry z)) (sym t);
       fewer = let g = ap length t in let i = ap length h.from in omega arith;
     }
-
--- a row is what the slot's entry shows
-pub row_short : (x : Option Entry) (n : ℕ) (before after : Octets) → Some n ≡ option_map (λ e. length (wire e.0)) x → length before ≡ 255 → length after ≡ 255 → after ≡ name_written x before → n ≤ 255
-row_short None n before after e b a w = absurd (let z : ◌≡◌ {A = ℕ} 0 1 = cc in omega arith)
-row_short (Some e) n before after h b a w =
-    let k : n ≡ length (wire e.0) = some_same n (length (wire e.0)) h in
-    let s = written_short (wire e.0) before after b a w in
-    omega arith
-
-pub row_shown : (x : Option Entry) (n : ℕ) (before after items : Octets) (ws : Words) → Some n ≡ option_map (λ e. length (wire e.0)) x → after ≡ name_written x before → items ≡ take (n - 0) after → Some ws ≡ option_map (λ e. e.1) x → Some (items, ws) ≡ option_map shown x
-row_shown None n before after items ws h w i t = absurd (let z : ◌≡◌ {A = ℕ} 0 1 = cc in omega arith)
-row_shown (Some e) n before after items ws h w i t =
-    let k : n - 0 ≡ length (wire e.0) = sub-zero n ∙ some_same n (length (wire e.0)) h in
-    let f = written_front (wire e.0) before after (n - 0) k w in
-    let u = some_same ws e.1 t in
-    ap Some (ap₂ (λ y z. (y, z)) (i ∙ f) u)
 
 -- a turn by slot numbers, f saying what each stands for
 pub turn_at : (f : ℕ → Option Entry) (slot next : Option ℕ) (k : ℕ) (rs hs : Held) (s t : Octets) (ws : Words)

@@ -47,7 +47,7 @@ fn row_at<B: Book>(heap: Global, book: &B, slot: usize) -> Result<Option<Row>, A
     let Some(types) = book.types(slot) else {
         return Ok(None);
     };
-    let octets = Vec::from_slice(heap, &name[0..n])?;
+    let octets = Vec::from_slice(heap, &name[..n])?;
     Ok(Some(Row { octets, types }))
 }
 
@@ -55,10 +55,7 @@ fn row_at<B: Book>(heap: Global, book: &B, slot: usize) -> Result<Option<Row>, A
 fn slot_after<B: Book>(book: &B, name: &[u8]) -> Option<usize>
     ensures { option_map (B.Book.entry book.now) result ≡ (if is_name name.now then some (entry_after (labels_of name.now) (B.Book.held book.now)) else None) }
 {
-    match book.next(name) {
-        Ok(next) => next,
-        Err(_) => None,
-    }
+    book.next(name).ok().flatten()
 }
 
 // The rows of a book.

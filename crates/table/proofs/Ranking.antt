@@ -1,5 +1,5 @@
 -- Ranks in a list that rises.
-use Rattle.std.proofs.Common.{◌≡◌, ℕ, ◌≤◌, true, cond, ◌⊎◌, [], ◌∷◌, length, Some, None, Option, sym, refl, ap, ◌∙◌, inl, inr, ⊎_elim, arith}
+use Rattle.std.proofs.Common.{◌≡◌, ◌≤◌, true, cond, ◌⊎◌, [], ◌∷◌, length, Some, None, Option, sym, refl, ap, ◌∙◌, inl, inr, ⊎_elim, arith}
 use Rattle.std.proofs.lemmas.Bool.{cases_Bool}
 use Rattle.std.proofs.lemmas.Bool.Decides.{nat_tests}
 use Rattle.std.specs.List.{slice_get, insert, remove}
@@ -38,7 +38,7 @@ either n e f es h k =
     (λ s. inl (((names_decide n e.0).0) s))
     (λ s.
     let t : entry_of n es ≡ Some f = sym (rw s) ∙ k in
-    inr (⊎_elim (λ l. l) (λ l. absurd (let b = none_before n e.0 es h l in let z : ◌≡◌ {A = ℕ} 0 1 = cc in omega arith)) (cases_Bool (less e.0 n)), t))
+    inr (⊎_elim (λ l. l) (λ l. let b = none_before n e.0 es h l in cc) (cases_Bool (less e.0 n)), t))
     (cases_Bool (same_name n e.0))
 
 -- an entry goes in at the rank of its name, and a name comes out there
@@ -55,7 +55,7 @@ rank_with e (f ∷ fs) h k =
     grind (arith, nat_tests)
 
 pub rank_without : (n : Labels) (hs : Held) (f : Entry) → rises hs ≡ true → entry_of n hs ≡ Some f → without_name n hs ≡ remove hs (rank n hs)
-rank_without n [] f h k = absurd (let z : ◌≡◌ {A = ℕ} 0 1 = cc in omega arith)
+rank_without n [] f h k = cc
 rank_without n (e ∷ es) f h k =
     ⊎_elim
     (λ s.

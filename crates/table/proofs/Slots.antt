@@ -1,5 +1,5 @@
 -- Slot numbers of a table.
-use Rattle.std.proofs.Common.{◌≡◌, ℕ, Bool, true, cond, is_some, Some, None, Ok, Err, Option, Result, sym, refl, ap, ◌∙◌, ⊎_elim, arith}
+use Rattle.std.proofs.Common.{◌≡◌, ℕ, Bool, true, cond, is_some, Some, None, Ok, Err, Option, Result, sym, refl, ap, ◌∙◌, ⊎_elim}
 use Rattle.std.proofs.lemmas.Bool.{cases_Bool}
 use Rattle.std.specs.List.{slice_get}
 use Rattle.std.specs.Option.{option_map}
@@ -22,8 +22,8 @@ of_read o u f e =
 
 -- what stands at the rank of a held name
 at_by : (n : Labels) (e : Entry) (o : Option Entry) → Some e ≡ same_at n o → o ≡ Some e
-at_by n e None h = absurd (let z : ◌≡◌ {A = ℕ} 0 1 = cc in omega arith)
-at_by n e (Some f) h = ⊎_elim (λ t. let z : Some e ≡ Some f = h ∙ rw t refl in sym z) (λ t. absurd (let z : Some e ≡ None = h ∙ rw t refl in let y : ◌≡◌ {A = ℕ} 0 1 = cc in omega arith)) (cases_Bool (same_name n f.0))
+at_by n e None h = cc
+at_by n e (Some f) h = ⊎_elim (λ t. let z : Some e ≡ Some f = h ∙ rw t refl in sym z) (λ t. let z : Some e ≡ None = h ∙ rw t refl in cc) (cases_Bool (same_name n f.0))
 
 at_rank : (n : Labels) (hs : Held) (e : Entry) → rises hs ≡ true → entry_of n hs ≡ Some e → slice_get hs (rank n hs) ≡ Some e
 at_rank n hs e h k = at_by n e (slice_get hs (rank n hs)) (sym k ∙ rank_entry n hs h)

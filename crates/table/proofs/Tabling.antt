@@ -32,13 +32,13 @@ pub record Present (n : Labels) (hs : Held) (i : ℕ) : Type 0 where
 
 missing_by : (n : Labels) (hs : Held) (i : ℕ) (o : Option Entry) → entry_of n hs ≡ o → Err i ≡ cond (is_some o) (Ok (rank n hs)) (Err (rank n hs)) → Missing n hs i
 missing_by n hs i None e h = record { at = cc; none = e }
-missing_by n hs i (Some x) e h = absurd (let z : ◌≡◌ {A = ℕ} 0 1 = cc in omega arith)
+missing_by n hs i (Some x) e h = cc
 
 pub missing : (n : Labels) (hs : Held) (i : ℕ) → Err i ≡ standing n hs → Missing n hs i
 missing n hs i h = missing_by n hs i (entry_of n hs) refl h
 
 present_by : (n : Labels) (hs : Held) (i : ℕ) (o : Option Entry) → entry_of n hs ≡ o → Ok i ≡ cond (is_some o) (Ok (rank n hs)) (Err (rank n hs)) → Present n hs i
-present_by n hs i None e h = absurd (let z : ◌≡◌ {A = ℕ} 0 1 = cc in omega arith)
+present_by n hs i None e h = cc
 present_by n hs i (Some x) e h = record { at = cc; entry = x; some = e }
 
 pub present : (n : Labels) (hs : Held) (i : ℕ) → Ok i ≡ standing n hs → Present n hs i
@@ -49,7 +49,7 @@ present_within n hs i h p =
     let m = rank_most n hs in
     let e = rank_entry n hs h in
     let q = slice_get_past hs (rank n hs) in
-    ⊎_elim (λ l. let j = p.at in grind arith) (λ l. absurd (let z = ap (same_at n) (q (grind arith)) in let w = p.some in let y : ◌≡◌ {A = ℕ} 0 1 = cc in omega arith)) (cases_Bool (ltb (rank n hs) (length hs)))
+    ⊎_elim (λ l. let j = p.at in grind arith) (λ l. let z = ap (same_at n) (q (grind arith)) in let w = p.some in cc) (cases_Bool (ltb (rank n hs) (length hs)))
 
 -- what a new slot has
 pub record Stored (x : Named) (s : Octets) (ws : Words) : Type 0 where
@@ -59,7 +59,7 @@ pub record Stored (x : Named) (s : Octets) (ws : Words) : Type 0 where
 
 stored_by : (x : Named) (s : Octets) (ws : Words) (b : Bool) → is_name s ≡ b → Some (contents x) ≡ cond b (Some (stored s ws)) None → Some (entry_in x) ≡ cond b (Some (labels_of s, ws)) None → Stored x s ws
 stored_by x s ws true n e f = record { name = n; all = some_same (contents x) (stored s ws) e; entry = some_same (entry_in x) (labels_of s, ws) f }
-stored_by x s ws false n e f = absurd (let z : ◌≡◌ {A = ℕ} 0 1 = cc in omega arith)
+stored_by x s ws false n e f = cc
 
 pub as_stored : (x : Named) (s : Octets) (ws : Words) → Some (contents x) ≡ cond (is_name s) (Some (stored s ws)) None → Some (entry_in x) ≡ cond (is_name s) (Some (labels_of s, ws)) None → Stored x s ws
 as_stored x s ws e f = stored_by x s ws (is_name s) refl e f
