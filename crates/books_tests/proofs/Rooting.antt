@@ -5,7 +5,8 @@ use Rattle.std.proofs.lemmas.Bool.Decides.{nat_tests}
 use Rattle.std.specs.List.{slice_get}
 use Rattle.std.specs.Option.{option_map}
 use Rattle.std.specs.Ordering.{is_lt}
-use Rattle.names.specs.Canonical.{canonical, lexical, by_octets}
+use Rattle.std.specs.Cmp.Lexicographic.{slice_cmp}
+use Rattle.names.specs.Canonical.{canonical, by_octets}
 use Rattle.names.specs.Types.{Words}
 use Rattle.names.specs.Wire.{Labels}
 use Rattle.names.specs.declared.refusal.Refusal.TheVariants.{NotHeld, BookFull}
@@ -27,7 +28,7 @@ none_found (l ∷ ls) None h = refl
 none_found (l ∷ ls) (Some t) h = refl
 
 -- no name is less than the root
-ends_first : (ls : Labels) → is_lt (lexical by_octets ls []) ≡ false
+ends_first : (ls : Labels) → is_lt (slice_cmp by_octets ls []) ≡ false
 ends_first [] = refl
 ends_first (l ∷ ls) = refl
 
