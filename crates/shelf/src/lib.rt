@@ -37,6 +37,7 @@ impl<'a, T: Copy> Shelf<'a, T> {
     }
 
     // Puts x at i, before what stands there; false, and nothing altered, where no slot is free or i is past the entries.
+    // Kept: a bool, since nothing comes with the answer.
     pub fn put(&mut self, i: usize, x: T) -> bool
         ensures answer { result ≡ can_put self.old.slots.now self.old.count i }
         ensures slots { self.new.slots.now ≡ put_slots self.old.slots.now self.old.count i x }

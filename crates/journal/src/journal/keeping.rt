@@ -15,6 +15,7 @@ use names::refusal::Refusal;
 use names::types::TypeSet;
 use shelf::Shelf;
 
+// Kept: each call that changes notes says that the number of slots stays; an invariant speaks of one state, not of two.
 impl<'a> Journal<'a> {
     // A journal with no note; the slots stay as they are.
     pub fn new(slots: &'a mut [Note]) -> Self
@@ -57,7 +58,7 @@ impl<'a> Journal<'a> {
         ensures notes { notes_shown self.new ≡ compacted (notes_shown self.old) }
         ensures slots { slots_of self.new ≡ slots_of self.old }
     {
-        // Kept: an index counted by hand, since a call of the shelf that takes a closure would need a `requires`.
+        // Kept: an index, since a call of the shelf that takes a closure needs a `requires`, which no public call has.
         let mut i = 0;
         while i < self.notes().len() {
             if live_at(self.notes(), i).is_some() {
@@ -69,6 +70,7 @@ impl<'a> Journal<'a> {
     }
 
     // Sees that a slot is free, by compaction where none is; false, and nothing altered, where all slots have live notes.
+    // Kept: a bool, since nothing comes with the answer, and `note_take` goes on where it is false.
     fn make_room(&mut self) -> bool
         ensures answer { result ≡ nat_lt (length (compacted (notes_shown self.old))) (slots_of self.old) }
         ensures notes { notes_shown self.new ≡ readied (slots_of self.old) (notes_shown self.old) }
