@@ -4,7 +4,7 @@ use Rattle.std.proofs.lemmas.List.{same_lists, places}
 use Rattle.std.proofs.lemmas.Bool.{cases_Bool}
 use borrow.Rule.Slice.PartMut.{mid_of, put_mid}
 use Rattle.std.specs.List.{insert, remove, RotatedLeft}
-use Rattle.shelf.specs.Entries.{live, can_put, put_slots, put_count, can_take, take_slots, take_count}
+use Rattle.shelf.specs.Entries.{live, can_put, put_slots, put_count, take_slots, take_count}
 
 pub live_put : {X : Type 0} (s : List X) (n i : ℕ) (x : X) → i ≤ n → n < length s → live (insert (live s n) i x ++ drop (n + 1) s) (n + 1) ≡ insert (live s n) i x
 live_put s n i x h l = same_lists _ _ (search (rules, places)) (λ k d b. grind (arith, places))
@@ -16,8 +16,8 @@ live_take s n i h l = same_lists _ _ (search (rules, places)) (λ k d b. grind (
 pub turned : {X : Type 0} (s r : List X) (n i : ℕ) → i < n → n ≤ length s → length r ≡ length (mid_of i (n - i) s) → RotatedLeft (mid_of i (n - i) s) r (length (mid_of i (n - i) s)) 1 → put_mid i (n - i) s r ≡ remove (live s n) i ++ (take 1 (drop i s) ++ drop n s)
 turned s r n i h l m e = same_lists _ _ (search (rules, places)) (λ k d b. grind (arith, places, e.0 (k - i) d, e.1 (k - i) d))
 
-pub slots_taken : {X : Type 0} (s : List X) (n i : ℕ) → i < n → take_slots s n i ≡ remove (live s n) i ++ (take 1 (drop i s) ++ drop n s)
-slots_taken s n i h = let t : can_take n i ≡ true = grind arith in rw t refl
+pub slots_taken : {X : Type 0} (s : List X) (n i : ℕ) → i < n → n ≤ length s → take_slots s n i ≡ remove (live s n) i ++ (take 1 (drop i s) ++ drop n s)
+slots_taken s n i h k = let b : ltb i n ≡ true = grind arith in let t : leb n (length s) ≡ true = grind arith in rw (b, t) refl
 
 -- the whole shelf once an entry was put at `i`, where `i` is not past the entries
 pub record Put {X : Type 0} (s : List X) (n i : ℕ) (x : X) : Type 0 where
@@ -46,5 +46,6 @@ pub record Taken {X : Type 0} (s : List X) (n i : ℕ) : Type 0 where
 pub take_all : {X : Type 0} (s : List X) (n i : ℕ) → i < n → n ≤ length s → Taken s n i
 take_all s n i h l =
     let b : ltb i n ≡ true = grind arith in
+    let t : leb n (length s) ≡ true = grind arith in
     let k : length (remove (live s n) i ++ (take 1 (drop i s) ++ drop n s)) ≡ length s = search (rules, places) in
-    record { entries = rw b (live_take s n i h l); slots = rw b k }
+    record { entries = rw (b, t) (live_take s n i h l); slots = rw (b, t) k }

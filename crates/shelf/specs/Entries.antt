@@ -18,15 +18,15 @@ abbrev pub put_count : {X : Type 0} → List X → ℕ → ℕ → ℕ
 put_count s n i = cond (can_put s n i) (n + 1) n
 
 -- there is an entry at `i` to come out
-abbrev pub can_take : ℕ → ℕ → Bool
-can_take n i = nat_lt i n
+abbrev pub can_take : {X : Type 0} → List X → ℕ → ℕ → Bool
+can_take s n i = nat_lt i n && nat_le n (length s)
 
 -- the entry that comes out, and the slots and the number of entries then: it lies in the first free slot
 abbrev pub taken : {X : Type 0} → List X → ℕ → ℕ → Option X
-taken s n i = cond (can_take n i) (slice_get s i) None
+taken s n i = cond (can_take s n i) (slice_get s i) None
 
 abbrev pub take_slots : {X : Type 0} → List X → ℕ → ℕ → List X
-take_slots s n i = cond (can_take n i) (remove (live s n) i ++ (take 1 (drop i s) ++ drop n s)) s
+take_slots s n i = cond (can_take s n i) (remove (live s n) i ++ (take 1 (drop i s) ++ drop n s)) s
 
 abbrev pub take_count : {X : Type 0} → List X → ℕ → ℕ → ℕ
-take_count s n i = cond (can_take n i) (n - 1) n
+take_count s n i = cond (can_take s n i) (n - 1) n
