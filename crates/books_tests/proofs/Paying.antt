@@ -1,6 +1,6 @@
 -- Names that cost their length, in slots.
-use Rattle.std.proofs.Common.{◌≡◌, ℕ, ◌+◌, ◌-◌, ◌<◌, ◌≤◌, Bool, true, false, cond, leb, List, [], ◌∷◌, length, get_or, drop, is_some, is_ok, Some, None, Ok, Err, Result, sym, refl, ap, ◌∙◌, arith}
-use Rattle.std.proofs.lemmas.List.{drop_more, drop_all}
+use Rattle.std.proofs.Common.{◌≡◌, ℕ, ◌+◌, ◌<◌, ◌≤◌, Bool, true, false, cond, leb, List, [], ◌∷◌, length, get_or, drop, is_some, is_ok, None, Ok, Err, Result, sym, refl, ap, ◌∙◌, arith}
+use Rattle.std.proofs.lemmas.List.{drop_more}
 use Rattle.std.proofs.lemmas.Bool.{cases_Bool}
 use Rattle.std.proofs.lemmas.Bool.Decides.{nat_tests}
 use Rattle.names.specs.Types.{Words}
@@ -27,17 +27,8 @@ paid_more es i x octets name l p e h k =
     let q : octets_of (entry_in (get_or es i x)).0 ≡ length octets = ap (λ y. octets_of (entry_in y).0) (sym p) ∙ ap octets_of (sym k) ∙ wire_long name h ∙ ap length (sym e) in
     omega arith
 
-pub paid_all : (es : List Named) (i : ℕ) → length es ≤ i → costs (drop i es) ≡ 0
-paid_all es i l = ap costs (drop_all i es l)
-
 pub rest_none : (k : ℕ) (hs : Held) → k < spent octets_of hs → rest k hs ≡ None
 rest_none k hs l = let c = cases_Bool (leb (spent octets_of hs) k) in grind (arith, nat_tests)
-
-pub rest_some : (k left : ℕ) (hs : Held) → left + spent octets_of hs ≡ k → rest k hs ≡ Some left
-rest_some k left hs e =
-    let c : leb (spent octets_of hs) k ≡ true = (let c = cases_Bool (leb (spent octets_of hs) k) in grind (arith, nat_tests)) in
-    let d : k - spent octets_of hs ≡ left = omega arith in
-    rw (c, d) refl
 
 -- each name costs 1 at least, so where the octets suffice, a slot is free
 each_pays : (hs : Held) → spent one_each hs ≤ spent octets_of hs

@@ -50,13 +50,10 @@ impl<'a, 'b> ByLength<'a, 'b> {
         if self.find(name)?.is_some() {
             return Err(Refusal::Held);
         }
-        let Some(left) = self.left() else {
-            return Err(Refusal::BookFull);
-        };
-        if cost > left {
-            return Err(Refusal::BookFull);
+        match self.left() {
+            Some(left) if cost <= left => Ok(()),
+            _ => Err(Refusal::BookFull),
         }
-        Ok(())
     }
 }
 
@@ -67,7 +64,7 @@ impl<'a, 'b> Book for ByLength<'a, 'b> {
 
     ghost most = { λ b. slot_count b.table.now };
 
-    ghost charge = { λ _ n. octets_of n };
+    ghost charge = { λ _. octets_of };
 
     ghost entry = { λ b i. entry_at b.table.now i };
 

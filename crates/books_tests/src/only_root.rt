@@ -25,7 +25,7 @@ impl OnlyRoot {
     fn slot(&self) -> Option<usize>
         ensures { result ≡ (if is_some self.now.types then Some 0 else None) }
     {
-        if self.types.is_some() { Some(0) } else { None }
+        self.types.is_some().then_some(0)
     }
 }
 
@@ -67,10 +67,7 @@ impl Book for OnlyRoot {
     }
 
     fn types(&self, slot: usize) -> Option<TypeSet> {
-        if slot > 0 {
-            return None;
-        }
-        self.types
+        if slot == 0 { self.types } else { None }
     }
 
     fn write_name(&self, slot: usize, out: &mut [u8; MAX_NAME]) -> Option<usize> {

@@ -4,7 +4,7 @@ use books::named::Named;
 use journal::{Journal, Note};
 use listing::rows;
 use names::refusal::Refusal;
-use names::types::TypeSet;
+use names::types::{TypeSet, WORDS};
 use std::alloc::Global;
 use std::process::Abort;
 use std::test::Fail;
@@ -25,16 +25,34 @@ const NAMES: [&[u8]; 6] = [
     b"\x03zz",
 ];
 
-// What a book answers to a call: 0, or the number of its refusal.
-fn answered(done: Result<(), Refusal>) -> u8 {
-    match done {
-        Ok(()) => 0,
-        Err(refusal) => refusal.number(),
-    }
+// A name that is held, with its types, both as octets.
+#[derive(Debug, PartialEq, Eq, Drop)]
+struct Shown {
+    name: Vec<u8>,
+    types: [u8; WORDS],
 }
 
-// The answers of a book to a sequence of calls that a number begins, and behind each what the book holds then.
-fn record<B: Book>(heap: Global, book: &mut B, begin: u16) -> Result<Vec<u8>, Fail> {
+// What a book answers to a call, and what it holds then.
+#[derive(Debug, PartialEq, Eq, Drop)]
+struct Step {
+    answer: Result<(), Refusal>,
+    held: Vec<Shown>,
+}
+
+// What a book holds.
+fn held_by<B: Book>(heap: Global, book: &B) -> Result<Vec<Shown>, Fail> {
+    let mut held = Vec::new(heap);
+    for row in &rows(heap, book)? {
+        held.push(Shown {
+            name: row.octets().to_vec(heap)?,
+            types: row.types().to_octets(),
+        })?;
+    }
+    Ok(held)
+}
+
+// The steps of a book through a sequence of calls that a number begins.
+fn record<B: Book>(heap: Global, book: &mut B, begin: u16) -> Result<Vec<Step>, Fail> {
     let mut record = Vec::new(heap);
     let mut state = begin;
     for t in 0..CALLS {
@@ -45,11 +63,8 @@ fn record<B: Book>(heap: Global, book: &mut B, begin: u16) -> Result<Vec<u8>, Fa
         } else {
             book.take(name)
         };
-        record.push(answered(answer))?;
-        for row in &rows(heap, book)? {
-            record.extend_from_slice(row.octets())?;
-            record.extend_from_slice(&row.types().to_octets())?;
-        }
+        let held = held_by(heap, book)?;
+        record.push(Step { answer, held })?;
     }
     Ok(record)
 }
@@ -60,7 +75,7 @@ fn check_alike(rt: &impl Abort, heap: Global, slots: usize, begin: u16) -> Resul
     let mut notes = vec![in heap; Note::blank(); slots]?;
     let table = record(heap, &mut Table::new(&mut entries), begin)?;
     let journal = record(heap, &mut Journal::new(&mut notes), begin)?;
-    assert_eq!(rt; table.as_slice(), journal.as_slice());
+    assert_eq!(rt; table, journal);
     Ok(())
 }
 
@@ -80,8 +95,8 @@ fn full_of_puts(rt: HostRuntime) {
     let mut book = Journal::new(&mut slots);
     let types = TypeSet::empty();
     assert!(rt; book.put(b"\x01a\x00", &types).is_ok() && book.put(b"\x01b\x00", &types).is_ok());
-    assert_eq!(rt; answered(book.put(b"\x01c\x00", &types)), 8);
-    assert_eq!(rt; answered(book.put(b"\x01A\x00", &types)), 4);
+    assert_eq!(rt; book.put(b"\x01c\x00", &types), Err(Refusal::BookFull));
+    assert_eq!(rt; book.put(b"\x01A\x00", &types), Err(Refusal::Held));
     assert_eq!(rt; book.notes().len(), 2);
     assert!(rt; book.take(b"\x01A\x00").is_ok());
     assert_eq!(rt; book.notes().len(), 1);
@@ -94,7 +109,7 @@ fn full_with_takes(rt: HostRuntime) {
     let types = TypeSet::empty();
     assert!(rt; book.put(b"\x01a\x00", &types).is_ok() && book.put(b"\x01b\x00", &types).is_ok());
     assert!(rt; book.take(b"\x01a\x00").is_ok());
-    assert_eq!(rt; answered(book.take(b"\x01a\x00")), 5);
+    assert_eq!(rt; book.take(b"\x01a\x00"), Err(Refusal::NotHeld));
     assert_eq!(rt; book.notes().len(), 3);
     assert!(rt; book.put(b"\x01c\x00", &types).is_ok());
     assert_eq!(rt; book.notes().len(), 2);

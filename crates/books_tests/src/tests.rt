@@ -14,10 +14,10 @@ fn nothing_is_held(rt: HostRuntime) -> Result<(), Fail> {
     let mut book = Nothing;
     let name = b"\x01a\x00";
     let types = TypeSet::empty();
-    assert!(rt; matches!(book.put(name, &types), Err(Refusal::BookFull)));
-    assert!(rt; matches!(book.put(b"\x01a", &types), Err(Refusal::NoName)));
-    assert!(rt; matches!(book.take(name), Err(Refusal::NotHeld)));
-    assert!(rt; matches!(book.cost(name), Ok(3)));
+    assert_eq!(rt; book.put(name, &types), Err(Refusal::BookFull));
+    assert_eq!(rt; book.put(b"\x01a", &types), Err(Refusal::NoName));
+    assert_eq!(rt; book.take(name), Err(Refusal::NotHeld));
+    assert_eq!(rt; book.cost(name), Ok(3));
     assert!(rt; rows(rt.alloc(), &book)?.is_empty());
     Ok(())
 }
@@ -30,8 +30,8 @@ fn octets_are_counted(rt: HostRuntime) -> Result<(), Fail> {
     let types = TypeSet::empty();
     assert!(rt; book.put(b"\x01a\x00", &types).is_ok());
     assert!(rt; book.put(b"\x01b\x00", &types).is_ok());
-    assert!(rt; matches!(book.put(b"\x01c\x00", &types), Err(Refusal::BookFull)));
-    assert!(rt; matches!(book.put(b"\x01A\x00", &types), Err(Refusal::Held)));
+    assert_eq!(rt; book.put(b"\x01c\x00", &types), Err(Refusal::BookFull));
+    assert_eq!(rt; book.put(b"\x01A\x00", &types), Err(Refusal::Held));
     assert!(rt; book.put(b"\x00", &types).is_ok());
     assert!(rt; book.take(b"\x01A\x00").is_ok());
     assert!(rt; book.put(b"\x01c\x00", &types).is_ok());
@@ -43,12 +43,12 @@ fn octets_are_counted(rt: HostRuntime) -> Result<(), Fail> {
 fn the_root_is_held(rt: HostRuntime) -> Result<(), Fail> {
     let mut book = OnlyRoot::new();
     let types = TypeSet::empty();
-    assert!(rt; matches!(book.put(b"\x01a\x00", &types), Err(Refusal::BookFull)));
-    assert!(rt; matches!(book.put(b"", &types), Err(Refusal::NoName)));
+    assert_eq!(rt; book.put(b"\x01a\x00", &types), Err(Refusal::BookFull));
+    assert_eq!(rt; book.put(b"", &types), Err(Refusal::NoName));
     assert!(rt; book.put(b"\x00", &types).is_ok());
-    assert!(rt; matches!(book.put(b"\x00", &types), Err(Refusal::Held)));
+    assert_eq!(rt; book.put(b"\x00", &types), Err(Refusal::Held));
     assert_eq!(rt; rows(rt.alloc(), &book)?.len(), 1);
     assert!(rt; book.take(b"\x00").is_ok());
-    assert!(rt; matches!(book.take(b"\x00"), Err(Refusal::NotHeld)));
+    assert_eq!(rt; book.take(b"\x00"), Err(Refusal::NotHeld));
     Ok(())
 }

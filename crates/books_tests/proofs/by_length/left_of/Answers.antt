@@ -1,6 +1,6 @@
 use Rattle.std.proofs.Common.{sym, ◌∙◌, arith}
 use Rattle.table.specs.Ranks.{entries_in}
-use Rattle.books_tests.proofs.Paying.{paid_more, paid_all, rest_none, rest_some}
+use Rattle.books_tests.proofs.Paying.{paid_more, rest_none}
 use Rattle.books_tests.proofs.by_length.left_of.Goals as goal
 
 pub returns-in_err-left : goal.returns-in_err-left
@@ -18,9 +18,3 @@ loop-entry-preserved c =
     let n0 = n.0 in
     let n1 = n.1 in
     omega arith
-
-pub returns : goal.returns
-returns c =
-    let i = c.loop-entry.invariant in
-    let m = paid_all c.args.entries.now c.loop-entry.entry-index c.loop-entry-test.false in
-    sym (rest_some c.args.octets c.loop-entry.left (entries_in c.args.entries.now) (omega arith))
