@@ -10,6 +10,7 @@ use names::refusal::Refusal;
 use names::types::TypeSet;
 
 // A book: a capacity, a cost for each name, and the names held, each with its types.
+// Kept: names come as octets, as to an order, since it is the book that answers what is no name.
 pub trait Book {
     // the names held with their types, strictly rising in canonical order
     ghost held: { Self → Held };

@@ -1,6 +1,5 @@
 // A book of capacity 0, in which a name costs its length: it holds nothing.
-ghost use Rattle.std.specs.Prelude.{ℕ, [], length, None, refl};
-ghost use Rattle.books.specs.Held.{Entry};
+ghost use Rattle.std.specs.Prelude.{[], length, None, refl};
 ghost use Rattle.names.specs.Wire.{wire};
 
 use books::book::Book;

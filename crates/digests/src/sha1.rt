@@ -28,7 +28,7 @@ fn put_word(out: &mut [u8; 255], at: usize, x: u32)
 fn put_state(out: &mut [u8; 255], s: State)
     ensures { out.new ≡ ended s ++ drop 20 out.old }
 {
-    // Kept: five words at fixed places; a loop over them would count the places by hand too.
+    // Kept: five words at fixed places; a zip of the words with pieces of the buffer says no more, and needs an invariant.
     put_word(out, 0, s.a);
     put_word(out, 4, s.b);
     put_word(out, 8, s.c);

@@ -1,15 +1,12 @@
 // A note of a journal.
-ghost use Rattle.std.specs.Prelude.{◌≡◌, true};
+ghost use Rattle.std.specs.Prelude.{◌≡◌};
 ghost use Rattle.books.specs.Stored.{blank as blank_contents};
 ghost use Rattle.journal.specs.Notes.{takes, is_put, name_noted};
 ghost use Rattle.journal.specs.View.{note_contents};
-ghost use Rattle.names.specs.TypeView.{words as words_in};
-ghost use Rattle.names.specs.View.{octets as octets_in, labels as labels_in};
-ghost use Rattle.names.specs.Wire.{is_name};
+ghost use Rattle.names.specs.View.{labels as labels_in};
 
 use books::named::Named;
 use names::name::Name;
-use names::types::TypeSet;
 
 #[derive(Clone, Copy)]
 pub enum Note {

@@ -47,7 +47,7 @@ pub(crate) fn least_after(notes: &[Note], after: &Name<'_>) -> Option<usize>
     let mut best: Option<(usize, Name<'_>)> = None;
     for (i, note) in notes.iter().enumerate().rev() {
         let name = note.name();
-        // Kept: a `match`, since a proof learns nothing of what the closure answers that `is_none_or` calls.
+        // Kept: a `match`; with `is_none_or` the proof did not close, since nothing was known of what its closure answers.
         let is_nearer = match best {
             Some((_, least)) => name < least,
             None => true,
@@ -64,7 +64,7 @@ pub(crate) fn least(notes: &[Note]) -> Option<usize>
     ensures { option_map (entry_at (shown notes.now)) result ≡ some (first_entry (held_by (shown notes.now))) }
 {
     let root = Name::read(&ROOT).unwrap();
-    // Kept: a `match`, since a proof learns nothing of what the closure answers that `or_else` calls.
+    // Kept: a `match`; with `or_else` the proof did not close, since nothing was known of what this closure answers.
     match put_of(notes, &root) {
         Some(i) => Some(i),
         None => least_after(notes, &root),

@@ -90,15 +90,3 @@ pub level_names : (n m p q : Labels) (x y k : ℕ) → x ≡ length n → y ≡ 
 level_names n m p q x y k a b e f g =
     let l = level_parts n m (x - k) (y - k) (omega arith) (omega arith) (omega arith) (omega arith) in
     record { even = rw (f, g) l.even; shares = rw (f, g) l.shares; orders = rw (f, g) l.orders }
-
-pub level_equal : (n m p q : Labels) (x y s : ℕ) (o f : Ordering) → Level n m p q → s ≡ shared p q → o ≡ canonical p q → o ≡ Equal → f ≡ nat_cmp x y → x ≡ length n → y ≡ length m → (s ≡ shared n m) × (f ≡ canonical n m)
-level_equal n m p q x y s o f l a b e g h k =
-    let u = l.shares in
-    let v = l.orders in
-    (cc, grind arith)
-
-pub level_other : (n m p q : Labels) (s : ℕ) (o : Ordering) → Level n m p q → s ≡ shared p q → o ≡ canonical p q → (o ≡ Equal → ⊥) → (s ≡ shared n m) × (o ≡ canonical n m)
-level_other n m p q s o l a b e =
-    let u = l.shares in
-    let v = l.orders in
-    (cc, grind arith)

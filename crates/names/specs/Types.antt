@@ -2,7 +2,7 @@
 --
 -- A type is a number below 65536. A set of types is a list of words, one octet each, as many as `width` says:
 -- type t is the mask 128 shifted right by t mod 8, in word t div 8.
-use Rattle.std.specs.Prelude.{ℕ, ◌*◌, ◌/◌, ◌%◌, ◌^◌, Bool, true, cond, not, ◌&&◌, ◌||◌, List, [], ◌∷◌, replicate, ◌==◌, bit_and, bit_or, nat_le, slice_index, slice_set}
+use Rattle.std.specs.Prelude.{ℕ, ◌*◌, ◌/◌, ◌%◌, ◌^◌, Bool, cond, not, ◌&&◌, ◌||◌, List, replicate, ◌==◌, bit_and, bit_or, nat_le, slice_index, slice_set}
 use Rattle.std.specs.List.{list_all, list_any, range_with_len}
 use Rattle.names.specs.Canonical.{same_name}
 use Rattle.names.specs.Wire.{Label, Labels, same_octets, star}
@@ -47,8 +47,7 @@ holdable t = asked t && not (t == 39)
 
 -- no word has a bit
 abbrev pub empty : Words → Bool
-empty [] = true
-empty (w ∷ ws) = w == 0 && empty ws
+empty ws = list_all (λ w. w == 0) ws
 
 -- each type of the set may be held
 unfoldable pub only_holdable : Words → Bool

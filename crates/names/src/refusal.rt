@@ -58,7 +58,7 @@ pub enum Refusal {
 
 impl Refusal {
     // The number by which a host knows the refusal.
-    // Kept: no `From` to a number, since at a call `number` says what the number is.
+    // Kept: no `From`, which would be this match under a name that does not say what the number is.
     pub fn number(&self) -> u8
         ensures { result ≡ number self.now }
     {

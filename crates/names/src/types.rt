@@ -6,7 +6,7 @@ mod members;
 mod octets;
 mod rules;
 
-// Kept: numbers and no enum, since each number of 16 bits is a type, also those that no rule names (RFC 3597).
+// Kept: numbers, since each number of 16 bits is a type (RFC 3597): an enum has not all, a struct around it rules none out.
 pub const NS: u16 = 2;
 
 pub const SOA: u16 = 6;

@@ -1,4 +1,4 @@
-ghost use Rattle.std.specs.Prelude.{◌≡◌, ℕ, ◌≤◌, Bool, true, length, Ok};
+ghost use Rattle.std.specs.Prelude.{◌≡◌, ◌≤◌, Bool, true, length, Ok};
 ghost use Rattle.std.specs.declared.cmp.Ordering.{Ordering};
 ghost use Rattle.names.specs.Wire.{Octets, Labels, is_labels};
 ghost use Rattle.names.specs.Refusals.{of_name};
@@ -35,6 +35,7 @@ pub trait Order {
         ensures { result ≡ compared self.now a.now b.now };
 
     // Whether the order keeps families.
+    // Kept: a question of each order, and no Option of the next one, so that code over any order is written once.
     fn keeps_families(&self) -> bool
         ensures { result ≡ families self.now };
 

@@ -11,7 +11,7 @@ pub const MAX_ITERATIONS: u16 = 150;
 
 // A salted order over a digest (RFC 5155 section 5): a name's place is the digest of its lower-case wire form and the
 // salt, and then, as often as there are iterations, the digest of the last result and the salt.
-// Kept: the salt has its length beside it, since the library has no heap and the order outlives the caller's octets.
+// Kept: the salt has its length beside it, since a slice would bind the order to memory of the caller, and a Vec needs a heap.
 #[derive(Drop)]
 pub struct Salted<D: Drop> {
     digest: D,

@@ -1,7 +1,7 @@
 -- Strings compared octet by octet.
 use Rattle.std.specs.Prelude.{◌≡◌, ℕ, ◌≤◌, length, nat_eq, refl}
 use Rattle.std.specs.declared.cmp.Ordering.TheVariants.{Equal}
-use Rattle.std.proofs.Common.{sym, ◌∙◌, arith}
+use Rattle.std.proofs.Common.{lit≤, sym, ◌∙◌, arith}
 use Rattle.std.proofs.lemmas.List.{nil_from_length}
 use Rattle.std.proofs.lemmas.Bool.{eqb-true}
 use Rattle.names.proofs.Ordered.{octets_total}
@@ -31,7 +31,7 @@ turned_total = record {
 }
 
 pub none_fit : 0 ≤ 255
-none_fit = omega arith
+none_fit = lit≤ tt
 
 pub one_fits : 1 ≤ 255
-one_fits = omega arith
+one_fits = lit≤ tt

@@ -7,7 +7,6 @@ use names::refusal::Refusal;
 use orders::canonical::Canonical;
 use orders::order::Order;
 use orders::salted::Salted;
-use std::cmp::Ordering;
 use std::process::Abort;
 use std::test::Fail;
 

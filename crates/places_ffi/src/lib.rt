@@ -25,7 +25,7 @@ pub extern "C" fn digest_sha1(a: &[u8], b: &[u8], out: &mut [u8; 255]) -> usize
 // Writes the place of a name under the salted order over SHA-1 with this salt and so many further iterations to the
 // front of the buffer, and answers how many octets that is. What lies past them stays. Where the octets are no name, or
 // there is no such order, the answer is 0, and the buffer stays.
-// Kept: 0 and no Option, since C calls it.
+// Kept: a buffer with a length, here and above, and 0 in place of an Option, since C calls both.
 #[unsafe(no_mangle)]
 pub extern "C" fn place_sha1(
     name: &[u8],

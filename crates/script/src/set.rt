@@ -1,6 +1,4 @@
-ghost use Rattle.std.specs.Prelude.{◌≡◌, true, length, IfOk, Some, string_bytes};
-ghost use Rattle.names.specs.Types.{width};
-ghost use Rattle.script.specs.NameText.{are_octets};
+ghost use Rattle.std.specs.Prelude.{◌≡◌, IfOk, Some, string_bytes};
 ghost use Rattle.names.specs.TypeView.{words as words_in};
 ghost use Rattle.script.specs.Reads.{Reads};
 ghost use Rattle.script.specs.SetText.{set_of, types_in, read_set, set_text};

@@ -1,5 +1,5 @@
-ghost use Rattle.std.specs.Prelude.{◌≡◌, ◌∷◌, ◌++◌, map, IfOk, if◌then◌else◌, Some, None, vec_items, string_bytes, decimal, OnOk};
-ghost use Rattle.script.specs.Reads.{row, Reads};
+ghost use Rattle.std.specs.Prelude.{◌≡◌, map, IfOk, if◌then◌else◌, Some, None, vec_items, string_bytes, decimal};
+ghost use Rattle.script.specs.Reads.{Reads};
 ghost use Rattle.script.specs.TypeText.{named, mnemonics, are_digits, is_number, number_after, read_type, read_types, types_text};
 
 use crate::fault::Fault;

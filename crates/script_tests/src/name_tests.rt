@@ -1,35 +1,37 @@
 use names::name::Name;
 use script::fault::Fault;
 use script::name::{name_text, read_name};
+use std::alloc::Global;
+use std::process::Abort;
 use std::test::Fail;
+
+// Each text stands for the octets beside it.
+fn stand_for(rt: &impl Abort, heap: Global, names: &[(&str, &[u8])]) -> Result<(), Fail> {
+    for (text, octets) in names {
+        assert_eq!(rt; read_name(heap, text)?.as_slice(), *octets);
+    }
+    Ok(())
+}
 
 #[test]
 fn names(rt: HostRuntime) -> Result<(), Fail> {
-    let heap = rt.alloc();
     let names: [(&str, &[u8]); 4] = [
         (".", &[0]),
         ("a.b.", &[1, b'a', 1, b'b', 0]),
         ("A\\046b.", &[3, b'A', b'.', b'b', 0]),
         ("\\255\\000.", &[2, 255, 0, 0]),
     ];
-    for (text, octets) in names {
-        assert_eq!(rt; read_name(heap, text)?.as_slice(), octets);
-    }
-    Ok(())
+    stand_for(&rt, rt.alloc(), &names)
 }
 
 #[test]
 fn octets(rt: HostRuntime) -> Result<(), Fail> {
-    let heap = rt.alloc();
     let names: [(&str, &[u8]); 3] = [
         ("=", &[]),
         ("=016100", &[1, b'a', 0]),
         ("=fF0a", &[255, 10]),
     ];
-    for (text, octets) in names {
-        assert_eq!(rt; read_name(heap, text)?.as_slice(), octets);
-    }
-    Ok(())
+    stand_for(&rt, rt.alloc(), &names)
 }
 
 #[test]

@@ -5,7 +5,8 @@ ghost use Rattle.std.specs.Prelude.{◌≡◌, ◌≤◌, length};
 ghost use Rattle.shelf.specs.Entries.{live, can_put, put_slots, put_count, taken, take_slots, take_count};
 
 // The first slots have the entries, in their sequence.
-// Kept: a buffer with its count beside it, since the library has no heap: the slots are lent memory.
+// Kept: a buffer with its count beside it, since the library has no heap: the slots are lent memory. Clauses name both, and
+// no view of them, since they pin the slots past the entries too.
 #[derive(Drop)]
 pub struct Shelf<'a, T> {
     slots: &'a mut [T],
@@ -37,7 +38,7 @@ impl<'a, T: Copy> Shelf<'a, T> {
     }
 
     // Puts x at i, before what stands there; false, and nothing altered, where no slot is free or i is past the entries.
-    // Kept: a bool, since nothing comes with the answer.
+    // Kept: a bool, since a full shelf is no refusal of the rules, and what is refused is the caller's own copy.
     pub fn put(&mut self, i: usize, x: T) -> bool
         ensures answer { result ≡ can_put self.old.slots.now self.old.count i }
         ensures slots { self.new.slots.now ≡ put_slots self.old.slots.now self.old.count i x }

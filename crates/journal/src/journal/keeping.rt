@@ -58,7 +58,7 @@ impl<'a> Journal<'a> {
         ensures notes { notes_shown self.new ≡ compacted (notes_shown self.old) }
         ensures slots { slots_of self.new ≡ slots_of self.old }
     {
-        // Kept: an index, since a call of the shelf that takes a closure needs a `requires`, which no public call has.
+        // Kept: an index, since what stays depends on the notes behind it, which a `retain` does not show its closure.
         let mut i = 0;
         while i < self.notes().len() {
             if live_at(self.notes(), i).is_some() {

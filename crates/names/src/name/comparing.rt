@@ -4,7 +4,7 @@ ghost use Rattle.names.specs.Orders.{same_name_equiv, canonical_partial, canonic
 ghost use Rattle.names.specs.Canonical.{canonical as canonical_order, shared as shared_labels, by_octets, same_name, below, at_or_below};
 ghost use Rattle.names.specs.Laws.{StrictTotal, Families};
 ghost use Rattle.names.specs.View.{labels as labels_in};
-ghost use Rattle.names.specs.Wire.{lower, labels_of};
+ghost use Rattle.names.specs.Wire.{lower};
 
 use crate::name::Name;
 use std::cmp::Ordering;
@@ -54,11 +54,10 @@ fn meet(a: &Name<'_>, b: &Name<'_>) -> Meeting
     let n = b.label_count();
     let fewer = m.min(n);
     let Meeting { shared, order } = meet_level(&a.without(m - fewer), &b.without(n - fewer));
-    let order = match order {
-        Ordering::Equal => m.cmp(&n),
-        found => found,
-    };
-    Meeting { shared, order }
+    Meeting {
+        shared,
+        order: order.then(m.cmp(&n)),
+    }
 }
 
 impl Name<'_> {
@@ -79,7 +78,6 @@ impl Name<'_> {
     // Whether the other name is an ancestor of this one.
     pub fn is_below(&self, other: &Name<'_>) -> bool
         ensures value { result ≡ below (labels_in self.now) (labels_in other.now) }
-        ensures total { StrictTotal canonical_order }
         ensures families { Families }
     {
         other.label_count() < self.label_count() && self.is_at_or_below(other)
@@ -122,7 +120,10 @@ impl Ord for Name<'_> {
 
     ghost matches_eq = { λ a b. names_ties (labels_in a) (labels_in b) };
 
-    fn cmp(&self, other: &Self) -> Ordering {
+    fn cmp(&self, other: &Self) -> Ordering
+        ensures value { result ≡ canonical_order (labels_in self.now) (labels_in other.now) }
+        ensures total { StrictTotal canonical_order }
+    {
         meet(self, other).order
     }
 }

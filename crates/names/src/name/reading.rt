@@ -1,4 +1,4 @@
-ghost use Rattle.std.specs.Prelude.{◌≡◌, ◌-◌, ◌≤◌, true, map, length, drop, IfErr, if◌then◌else◌, Some, None};
+ghost use Rattle.std.specs.Prelude.{◌≡◌, ◌-◌, ◌≤◌, map, length, drop, IfErr, if◌then◌else◌, Some, None};
 ghost use Rattle.names.specs.Laws.{WireAndParse};
 ghost use Rattle.names.specs.Types.{is_star, starred};
 ghost use Rattle.names.specs.View.{octets as octets_in, labels as labels_in, read_octets, read_labels};

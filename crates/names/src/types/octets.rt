@@ -16,7 +16,7 @@ impl From<[u8; WORDS]> for TypeSet {
 
 impl TypeSet {
     // The octets of the set.
-    // Kept: no `From`, since a method of that trait has no place for the clause `layout`.
+    // Kept: no `From`, since at a call this name says what comes, and the array's type need not be written there.
     pub fn to_octets(&self) -> [u8; WORDS]
         ensures value { result ≡ words_in self.now }
         ensures layout { (t : ℕ) → has (words_in self.now) t ≡ not (bit_and (slice_index result (t / 8)) (128 / 2 ^ (t % 8)) == 0) }

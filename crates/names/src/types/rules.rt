@@ -31,7 +31,7 @@ impl TypeSet {
     }
 
     // Whether the set is NS and DS, what a signed zone cut holds.
-    // Kept: beside the one before, since one function of both would take the kind of cut and be called by two names.
+    // Kept: both this and the one before are public, and one function of both would take what their names say.
     pub fn is_signed_cut(&self) -> bool
         ensures { result ≡ signed_cut (words_in self.now) }
     {

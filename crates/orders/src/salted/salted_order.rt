@@ -1,4 +1,4 @@
-ghost use Rattle.std.specs.Prelude.{◌≡◌, ◌≤◌, false, ◌++◌, length, drop, ◌==◌};
+ghost use Rattle.std.specs.Prelude.{◌≡◌, false, ◌++◌, length, drop, ◌==◌};
 ghost use Rattle.names.specs.Canonical.{by_octets};
 ghost use Rattle.names.specs.Wire.{wire};
 ghost use Rattle.orders.specs.Places.{iterated};
