@@ -47,6 +47,64 @@ pub canonical_total : StrictTotal canonical
 canonical_total = strict canonical (canonical_total_by (λ n. n)) (λ n m e. (names_decide n m).0 (names_ties n m ∙ ap is_eq e))
 
 module _ {X : Type 0} (by : X → X → Ordering) (total : StrictTotal by) where
+  lexical_itself : (a : List X) → slice_cmp by a a ≡ Equal
+  lexical_itself [] = refl
+  lexical_itself (x ∷ xs) = rw (total.itself x) (lexical_itself xs)
+
+  -- where the heads' order is known
+  lexical_same : (a b : List X) → slice_cmp by a b ≡ Equal → a ≡ b
+  lexical_same [] [] h = refl
+  lexical_same [] (y ∷ ys) h = absurd (let z : ◌≡◌ {A = ℕ} 0 1 = cc in omega arith)
+  lexical_same (x ∷ xs) [] h = absurd (let z : ◌≡◌ {A = ℕ} 0 1 = cc in omega arith)
+  lexical_same (x ∷ xs) (y ∷ ys) h =
+      let ih = lexical_same xs ys in
+      let e = total.same x y in
+      grind arith
+
+  lexical_greater : (a b : List X) → slice_cmp by a b ≡ Less → slice_cmp by b a ≡ Greater
+  lexical_greater [] [] h = absurd (let z : ◌≡◌ {A = ℕ} 0 1 = cc in omega arith)
+  lexical_greater [] (y ∷ ys) h = refl
+  lexical_greater (x ∷ xs) [] h = absurd (let z : ◌≡◌ {A = ℕ} 0 1 = cc in omega arith)
+  lexical_greater (x ∷ xs) (y ∷ ys) h =
+      let ih = lexical_greater xs ys in
+      let e = total.same x y in
+      let i = total.itself x in
+      let g = total.greater x y in
+      grind arith
+
+  lexical_less : (a b : List X) → slice_cmp by a b ≡ Greater → slice_cmp by b a ≡ Less
+  lexical_less [] [] h = absurd (let z : ◌≡◌ {A = ℕ} 0 1 = cc in omega arith)
+  lexical_less [] (y ∷ ys) h = absurd (let z : ◌≡◌ {A = ℕ} 0 1 = cc in omega arith)
+  lexical_less (x ∷ xs) [] h = refl
+  lexical_less (x ∷ xs) (y ∷ ys) h =
+      let ih = lexical_less xs ys in
+      let e = total.same x y in
+      let i = total.itself x in
+      let g = total.less x y in
+      grind arith
+
+  lexical_transitive : (a b c : List X) → slice_cmp by a b ≡ Less → slice_cmp by b c ≡ Less → slice_cmp by a c ≡ Less
+  lexical_transitive [] [] c h k = absurd (let z : ◌≡◌ {A = ℕ} 0 1 = cc in omega arith)
+  lexical_transitive [] (y ∷ ys) [] h k = absurd (let z : ◌≡◌ {A = ℕ} 0 1 = cc in omega arith)
+  lexical_transitive [] (y ∷ ys) (z ∷ zs) h k = refl
+  lexical_transitive (x ∷ xs) [] c h k = absurd (let z : ◌≡◌ {A = ℕ} 0 1 = cc in omega arith)
+  lexical_transitive (x ∷ xs) (y ∷ ys) [] h k = absurd (let z : ◌≡◌ {A = ℕ} 0 1 = cc in omega arith)
+  lexical_transitive (x ∷ xs) (y ∷ ys) (z ∷ zs) h k =
+      let ih = lexical_transitive xs ys zs in
+      let e = total.same x y in
+      let f = total.same y z in
+      let t = total.transitive x y z in
+      grind arith
+
+  pub lexical_total : StrictTotal (slice_cmp by)
+  lexical_total = record {
+    itself = lexical_itself;
+    same = lexical_same;
+    greater = lexical_greater;
+    less = lexical_less;
+    transitive = lexical_transitive;
+  }
+
   -- what lies between a list and a longer one that begins with it begins with it too, and is longer
   pub prefix_between : (a b e : List X) → slice_cmp by a b ≡ Less → slice_cmp by b (a ++ e) ≡ Less → (f : List X) × (0 < length f) × (b ≡ a ++ f)
   prefix_between [] [] e h k = absurd (let z : ◌≡◌ {A = ℕ} 0 1 = cc in omega arith)

@@ -95,6 +95,10 @@ rest_shorter s l r e =
     let c : length s ≡ suc (length l + length r) = ap length p ∙ ap suc (length-append l r) in
     omega arith
 
+pub after_first : (s l r : Octets) → first_label s ≡ Some (l, r) → r ≡ after_label s
+after_first [] l r e = absurd (let z : ◌≡◌ {A = ℕ} 0 1 = cc in omega arith)
+after_first (x ∷ xs) l r e = grind (arith, nat_tests)
+
 pub only_zero : (s : Octets) → same_octets s (0 ∷ []) ≡ (eqb (length s) 1 && eqb (get_or s 0 0) 0)
 only_zero [] = refl
 only_zero (x ∷ []) = grind (arith, nat_tests)

@@ -1,10 +1,25 @@
 -- Names written to a buffer.
-use Rattle.std.proofs.Common.{◌≡◌, ℕ, ◌+◌, ◌≤◌, true, cond, leb, [], ◌∷◌, ◌++◌, map, length, take, drop, set, Some, None, Option, sym, ap, ◌∙◌, ap₂, arith}
+use Rattle.std.proofs.Common.{◌≡◌, ℕ, ◌+◌, ◌<◌, ◌≤◌, true, cond, leb, [], ◌∷◌, ◌++◌, map, length, get_or, take, drop, set, Some, None, Option, sym, ap, ◌∙◌, ap₂, arith}
 use borrow.Rule.Slice.PartMut.{put_mid}
-use Rattle.std.proofs.lemmas.List.{length-map, take_all, drop_all, append-nil}
+use Rattle.std.proofs.lemmas.List.{map_more, drop_more, set_at, append_assoc, length-map, length-take-le, take_all, drop_all, append-nil}
 use Rattle.std.proofs.lemmas.Bool.Decides.{nat_tests}
 use Rattle.names.specs.Wire.{Octets, lower, wire, is_name, labels_of, written, star_name, Wrote, WroteStar}
 use Rattle.names.proofs.Undo.{wire_labels}
+
+-- one octet more
+pub lower_more : (s out : Octets) (i : ℕ) → i < length s → i < length out → set (map lower (take i s) ++ drop i out) i (lower (get_or s i 0)) ≡ map lower (take (i + 1) s) ++ drop (i + 1) out
+lower_more s out i h k =
+    let e : length (map lower (take i s)) ≡ i = length-map (take i s) lower ∙ length-take-le i s (omega arith) in
+    ap (λ t. set (map lower (take i s) ++ t) i (lower (get_or s i 0))) (drop_more out i 0 k)
+    ∙ set_at (map lower (take i s)) (get_or out i 0) (drop (i + 1) out) (lower (get_or s i 0)) i e
+    ∙ sym (append_assoc (map lower (take i s)) (lower (get_or s i 0) ∷ []) (drop (i + 1) out))
+    ∙ ap (λ t. t ++ drop (i + 1) out) (sym (map_more lower s i 0 h))
+
+-- all octets are written
+pub lower_whole : (s out after : Octets) (i : ℕ) → length s ≤ i → i ≤ length s → after ≡ map lower (take i s) ++ drop i out → after ≡ written (map lower s) out
+lower_whole s out after i h k e =
+    let n : i ≡ length (map lower s) = let m = length-map s lower in omega arith in
+    e ∙ ap₂ (λ u j. map lower u ++ drop j out) (take_all i s h) n
 
 -- the octets of a name are written whole
 pub wrote_name : (s before after : Octets) (r : ℕ) → is_name s ≡ true → r ≡ length s → after ≡ written (map lower s) before → Wrote (wire (labels_of s)) before r after

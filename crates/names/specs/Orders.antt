@@ -15,6 +15,9 @@ octets_decide = bytes_decides
 pub names_decide : (n m : Labels) → (same_name n m ≡ true → n ≡ m) × (n ≡ m → same_name n m ≡ true)
 names_decide = pointwise_decides octets_decide
 
+pub same_octets_equiv : {X : Type 0} (read : X → Octets) → IsEquivalence (λ a b. same_octets (read a) (read b))
+same_octets_equiv read = on_equiv read (lists_equiv nat_eq_equiv)
+
 pub same_name_equiv : {X : Type 0} (read : X → Labels) → IsEquivalence (λ a b. same_name (read a) (read b))
 same_name_equiv read = on_equiv read (lists_equiv (lists_equiv nat_eq_equiv))
 
