@@ -1,1 +1,1 @@
-mod Hashing
+pub mod Hashing
