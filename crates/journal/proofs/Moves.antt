@@ -1,13 +1,19 @@
 -- The notes once one is added or removed, and the steps of a compaction.
-use Rattle.std.proofs.Common.{◌≡◌, ℕ, suc, ◌+◌, ◌<◌, true, false, List, [], ◌∷◌, ◌++◌, length, take, drop, is_some, sym, ap, ◌∙◌, ap₂, add-one, arith}
-use Rattle.std.proofs.lemmas.List.{length-take-le, length-map, take-map, drop-map, map-append, take_at, drop_at, append_assoc}
-use Rattle.std.proofs.lemmas.Bool.{cases_Bool}
+use Rattle.std.proofs.Common.{◌≡◌, ℕ, suc, ◌+◌, ◌<◌, true, false, List, [], ◌∷◌, ◌++◌, length, take, drop, is_some, sym, ap, ◌∙◌, ap₂, ⊎_elim, add-one, arith}
+use Rattle.std.proofs.lemmas.List.{length-take-le, length-map, take-map, drop-map, map-append, take_at, drop_at, append_assoc, at_drop_all}
+use Rattle.std.proofs.lemmas.Bool.{false≢true, cases_Bool, cases_lt}
 use Rattle.std.proofs.lemmas.Bool.Decides.{nat_tests}
 use Rattle.std.specs.List.{remove}
 use Rattle.journal.proofs.Places.{at}
 use Rattle.journal.specs.Notes.{Notes, compacted, is_live, live_entry, entry_at}
 use Rattle.journal.specs.View.{note_contents, shown}
 use Rattle.journal.specs.declared.note.Note.{Note}
+
+-- a live note stands at an index of the notes
+pub live_within : (ns : List Note) (i : ℕ) → is_some (entry_at (shown ns) i) ≡ true → i < length ns
+live_within ns i h =
+    let k = length-map ns note_contents in
+    ⊎_elim (λ l. l) (λ l. absurd (false≢true (sym (ap is_some (at_drop_all live_entry (shown ns) i (omega arith))) ∙ h))) (cases_lt i (length ns))
 
 -- notes of which the first i are settled, as they will be when all are
 abbrev pub settled : List Note → ℕ → Notes

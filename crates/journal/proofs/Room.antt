@@ -159,6 +159,10 @@ found_by n (y ∷ ys) (Some e) f p =
 found : (n : Labels) (xs : Notes) (i : ℕ) → Some (entry_at xs i) ≡ some (entry_of n (held_by xs)) → Found n (drop i xs)
 found n xs i p = found_by n (drop i xs) (entry_of n (held_by xs)) (entry_named n (held_by xs)) p
 
+-- an index that was found is one of the notes
+pub found_within : (n : Labels) (xs : Notes) (i : ℕ) → Some (entry_at xs i) ≡ some (entry_of n (held_by xs)) → i < length xs
+found_within n xs i p = let d = length-drop i xs in let l = ap length (found n xs i p).is in omega arith
+
 -- a take where all slots have live notes
 pub take_full : (capacity : ℕ) (xs : Notes) (s : Octets) (i : ℕ) → is_name s ≡ true → length xs ≤ capacity → false ≡ ltb (length (compacted xs)) capacity → Some (entry_at xs i) ≡ some (entry_of (labels_of s) (held_by xs))
     → remove (readied capacity xs) i ≡ notes_after_take capacity xs s

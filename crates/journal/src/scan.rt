@@ -47,13 +47,15 @@ pub(crate) fn least_after(notes: &[Note], after: &Name<'_>) -> Option<usize>
     let mut best: Option<(usize, Name<'_>)> = None;
     for (i, note) in notes.iter().enumerate().rev() {
         let name = note.name();
-        // Kept: a `match`; with `is_none_or` the proof did not close, since nothing was known of what its closure answers.
-        let is_nearer = match best {
-            Some((_, least)) => name < least,
-            None => true,
-        };
-        if is_nearer && *after < name && live_at(notes, i).is_some() {
-            best = Some((i, name));
+        if *after < name {
+            // Kept: a `match`; with `is_none_or` the proof did not close, since nothing was known of what its closure answers.
+            let is_nearer = match best {
+                Some((_, least)) => name < least,
+                None => true,
+            };
+            if is_nearer && live_at(notes, i).is_some() {
+                best = Some((i, name));
+            }
         }
     }
     best.map(|(i, _)| i)
