@@ -32,6 +32,12 @@ no_mark c (x ∷ xs) n =
     let d = n 0 (omega arith) in
     (let a = ih.0 in grind (arith, nat_tests), let b = ih.1 in grind (arith, nat_tests))
 
+-- what follows a mark is shorter than the text
+pub past_shorter : (c : ℕ) (s : Octets) → 0 < length s → length (past c s) < length s
+past_shorter c [] h = absurd (omega arith)
+past_shorter c (x ∷ []) h = grind arith
+past_shorter c (x ∷ (y ∷ ys)) h = let ih = past_shorter c (y ∷ ys) (omega arith) in grind arith
+
 -- the parts that a text is cut into at a mark, or the whole text where it has none
 pub cut_parts : (c : ℕ) (s : Octets) (r : Option (Bor Octets × Bor Octets)) (d x : Bor Octets × Bor Octets) → IsSplitOnceResult c s r → c < 128 → d.0.now ≡ s → d.1.now ≡ [] → x ≡ unwrap_or r d → (x.0.now ≡ up_to c s) × (x.1.now ≡ past c s)
 cut_parts c s None d x h k e f g =

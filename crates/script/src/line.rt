@@ -32,6 +32,10 @@ fn cut(text: &str, mark: char) -> (&str, &str)
 fn next_word(text: &str) -> (&str, &str)
     ensures { (result.0.now, result.1.now) ≡ next_word text.now }
 {
+    // Behind `list` nothing is left, and is not searched.
+    if text.is_empty() {
+        return ("", "");
+    }
     cut(text.trim_start_matches(' '), ' ')
 }
 
@@ -70,6 +74,10 @@ pub fn read_line(heap: Global, text: &str) -> Result<Line, Fault>
     ensures { ReadsLine result (read_line text.now) }
 {
     let (code, _) = cut(text, '#');
+    // Blank lines and lines with a comment only end here, without the search for a word.
+    if code.is_empty() {
+        return Ok(Line::Nothing);
+    }
     let (command, rest) = next_word(code);
     match command {
         "" => Ok(Line::Nothing),

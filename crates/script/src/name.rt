@@ -1,4 +1,4 @@
-ghost use Rattle.std.specs.Prelude.{◌≡◌, ◌+◌, ◌*◌, ◌&&◌, length, true, [], ◌∷◌, ◌++◌, map, IfOk, if◌then◌else◌, Some, None, vec_items, string_bytes, OnOk};
+ghost use Rattle.std.specs.Prelude.{◌≡◌, ◌+◌, ◌*◌, ◌%◌, ◌&&◌, length, true, [], ◌∷◌, ◌++◌, map, IfOk, if◌then◌else◌, Some, None, vec_items, string_bytes, OnOk};
 ghost use Rattle.names.specs.Wire.{lower, wire};
 ghost use Rattle.names.specs.View.{labels};
 ghost use Rattle.script.specs.NameText.{are_octets, is_shown, octet_text, label_text, labels_text, name_text, read_name, read_hex, read_labels, is_hex, hex_value, is_plain, is_octet3, decimal3, is_whole};
@@ -118,6 +118,13 @@ pub fn read_name(heap: Global, text: &str) -> Result<Vec<u8>, Fault>
     }
 }
 
+// The last digit of a number.
+fn last_digit(n: u8) -> char
+    ensures { result ≡ 48 + n % 10 }
+{
+    char::from(b'0' + n % 10)
+}
+
 // Puts an octet of a label behind a text.
 fn push_octet(text: &mut String, x: u8) -> Result<(), AllocError>
     ensures { OnOk result (string_bytes text.new ≡ string_bytes text.old ++ octet_text x) }
@@ -125,7 +132,11 @@ fn push_octet(text: &mut String, x: u8) -> Result<(), AllocError>
     if is_shown(x) {
         text.push(char::from(x))?;
     } else {
-        write!(text, "\\{x:03}")?;
+        // Kept: a push for each character, since a format took one and a half times as long to list names of such octets.
+        text.push('\\')?;
+        text.push(last_digit(x / 100))?;
+        text.push(last_digit(x / 10))?;
+        text.push(last_digit(x))?;
     }
     Ok(())
 }
