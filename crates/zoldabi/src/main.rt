@@ -2,6 +2,9 @@
 // `LINE => ANSWER`.
 #![tactic(auto)]
 
+mod owned;
+
+use crate::owned::OwnedName;
 use anyhow::Context;
 use names::name::Name;
 use names::refusal::Refusal;
@@ -22,15 +25,15 @@ fn script_text(rt: &HostRuntime) -> io::Result<String> {
     }
 }
 
-// The lines of a script, each with what it says.
-fn read_lines<'a>(heap: Global, script: &'a str) -> anyhow::Result<Vec<(&'a str, Line)>> {
-    let mut lines = Vec::new(heap);
-    for text in script.lines() {
-        let number = lines.len() + 1;
-        let line = read_line(heap, text).context(format_args!("line {number}"))?;
-        lines.push((text, line))?;
+// Finds the first line that is none. What the lines say is not kept: a script may have far more lines than names.
+fn check_lines(heap: Global, script: &str) -> anyhow::Result<()> {
+    for (i, text) in script.lines().enumerate() {
+        if let Err(fault) = read_line(heap, text) {
+            let number = i.saturating_add(1);
+            return Err(fault).context(format_args!("line {number}"));
+        }
     }
-    Ok(lines)
+    Ok(())
 }
 
 // The name that a line gives. Refused are types that neither the rule for an apex nor that for other names allows it.
@@ -44,13 +47,13 @@ fn allowed_name<'a>(octets: &'a [u8], types: &TypeSet) -> Result<Name<'a>, Refus
 }
 
 // The label count and the lower-case form of a name, which is kept, or why it is refused.
-fn answer_name<'a>(
+fn answer_name(
     heap: Global,
-    kept: &mut BTreeMap<Name<'a>, TypeSet>,
-    octets: &'a [u8],
+    kept: &mut BTreeMap<OwnedName, TypeSet>,
+    octets: Vec<u8>,
     types: TypeSet,
 ) -> Result<String, AllocError> {
-    let name = match allowed_name(octets, &types) {
+    let name = match allowed_name(&octets, &types) {
         Ok(name) => name,
         Err(refusal) => {
             let number = refusal.number();
@@ -59,16 +62,18 @@ fn answer_name<'a>(
     };
     let count = name.label_count();
     let text = name_text(heap, &name)?;
-    kept.insert(name, types)?;
+    if let Some(name) = OwnedName::new(octets) {
+        kept.insert(name, types)?;
+    }
     format!(in heap; "{count} {text}")
 }
 
 // The number of the names so far, and a line for each in canonical order.
-fn answer_list(heap: Global, kept: &BTreeMap<Name<'_>, TypeSet>) -> Result<String, AllocError> {
+fn answer_list(heap: Global, kept: &BTreeMap<OwnedName, TypeSet>) -> Result<String, AllocError> {
     let count = kept.len();
     let mut answer = format!(in heap; "{count}")?;
     for (name, types) in kept {
-        let line = entry_line(heap, name, types)?;
+        let line = entry_line(heap, &name.name(), types)?;
         write!(answer, "\n{line}")?;
     }
     Ok(answer)
@@ -77,13 +82,13 @@ fn answer_list(heap: Global, kept: &BTreeMap<Name<'_>, TypeSet>) -> Result<Strin
 fn run(rt: &HostRuntime) -> anyhow::Result<()> {
     let heap = rt.alloc();
     let script = script_text(rt)?;
-    let lines = read_lines(heap, &script)?;
+    check_lines(heap, &script)?;
     let mut kept = BTreeMap::new(heap);
-    for (text, line) in &lines {
-        let answer = match line {
+    for text in script.lines() {
+        let answer = match read_line(heap, text)? {
             Line::Nothing => continue,
             Line::List => answer_list(heap, &kept)?,
-            Line::Name(octets, types) => answer_name(heap, &mut kept, octets, *types)?,
+            Line::Name(octets, types) => answer_name(heap, &mut kept, octets, types)?,
         };
         let record = record_line(heap, text, &answer)?;
         println!(rt; "{record}")?;
